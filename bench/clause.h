@@ -1,0 +1,42 @@
+/* The composing call in C: the plan's layout, and two functions of one meaning. */
+#include <stddef.h>
+#include <stdint.h>
+
+typedef struct {
+    uint8_t profile, level, d, bl, el, hdr, disabled;
+    uint16_t columns, pairs, brightest;
+    uint32_t darkest;
+} Header;
+
+typedef struct {
+    uint8_t idc, order;
+    int64_t row[3];
+} Piece;
+
+typedef struct {
+    uint16_t offset;
+    uint64_t maximum, slope, threshold;
+} Nlq;
+
+typedef struct {
+    uint8_t n;
+    uint16_t preds[17];
+    Piece pieces[17];
+    Nlq nlq;
+} Component;
+
+typedef struct {
+    Header header;
+    Component y, cb, cr;
+} Plan;
+
+/* The proved code: 0, or the refusal's number. A slice is a pointer, then a length. */
+uint8_t speed_compose(Plan plan, size_t first, size_t count, const uint16_t *base, size_t base_len,
+                      const uint16_t *enhancement, size_t enhancement_len, uint16_t *output, size_t output_len);
+
+/* Clause-by-clause C, once a compiler. */
+#define CLAUSE(name)                                                                                     \
+    uint8_t name(const Plan *plan, size_t first, size_t count, const uint16_t *base, size_t base_len,     \
+                 const uint16_t *enhancement, size_t enhancement_len, uint16_t *output, size_t output_len)
+CLAUSE(clause_gcc);
+CLAUSE(clause_clang);

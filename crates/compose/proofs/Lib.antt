@@ -1,0 +1,4 @@
+pub mod Steps
+pub mod Geometry
+pub mod Meaning
+pub mod Accepting

@@ -1,0 +1,7 @@
+pub mod Ranges
+pub mod Kernel
+pub mod Picture
+pub mod Places
+pub mod Composing
+pub mod Planes
+pub mod Early

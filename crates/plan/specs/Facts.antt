@@ -1,0 +1,44 @@
+-- What a plan that passes rule 7 gives whoever computes with it, in slack bounds that hold for every depth and every d.
+use mathlib.Core.Path.{_≡_}
+use Prim.Native.Nat.{ℕ, _+_, _*_, _^_, _<_, _≤_}
+use lib.IntN.{ℤ, pos, natAbs}
+use lib.ListN.{length, getD}
+use Rattle.plan.specs.declared.Header.{Header}
+use Rattle.plan.specs.declared.Component.{Component}
+use Rattle.plan.specs.declared.Plan.{Plan}
+use Rattle.plan.specs.Rule7.{no-piece}
+
+-- the header's numbers
+pub record HeaderFacts (h : Header) : Type 0 where
+  pub base-depth : h .bl ≤ 2
+  pub same-depth : h .el ≡ h .bl
+  pub deep : h .el + 13 ≤ h .d
+  pub shallow : h .d ≤ 32
+  pub out-depth : h .hdr ≤ 4
+  pub some-columns : 1 ≤ h .columns
+  pub few-columns : h .columns ≤ 2048
+  pub some-pairs : 1 ≤ h .pairs
+  pub few-pairs : h .pairs ≤ 1152
+
+-- the lengths of a plan's arrays, which its type fixes and a record alone does not say
+pub record Arrays (c : Component) : Type 0 where
+  pub preds : length (c .preds) ≡ 17
+  pub pieces : length (c .pieces) ≡ 17
+  pub row : (p : ℕ) → p < 17 → length (getD (c .pieces) p no-piece .row) ≡ 3
+
+pub record Sized (p : Plan) : Type 0 where
+  pub y : Arrays (p .y)
+  pub cb : Arrays (p .cb)
+  pub cr : Arrays (p .cr)
+
+-- a component's numbers, at every index: what stands past an array's places is 0
+pub record ComponentFacts (h : Header) (c : Component) : Type 0 where
+  pub count : c .n ≤ 15
+  pub pivot : (i : ℕ) → getD (c .preds) i 0 < 2 ^ (h .bl + 8)
+  pub order : (p : ℕ) → getD (c .pieces) p no-piece .order ≤ 1
+  pub coefficient : (p i : ℕ) → natAbs (getD (getD (c .pieces) p no-piece .row) i (pos 0)) ≤ 64 * 2 ^ h .d
+  pub unused : (p : ℕ) → getD (c .pieces) p no-piece .order ≡ 0 → getD (getD (c .pieces) p no-piece .row) 2 (pos 0) ≡ pos 0
+  pub offset : c .nlq .offset < 2 ^ (h .el + 8)
+  pub maximum : c .nlq .maximum ≤ 2 ^ (h .d + 1)
+  pub slope : c .nlq .slope ≤ 2 ^ (h .d + 1)
+  pub threshold : c .nlq .threshold ≤ 2 ^ (h .d + 1)

@@ -1,0 +1,5 @@
+pub mod Ranges
+pub mod Rule7
+pub mod Parameters
+pub mod Facts
+pub mod Refusals

@@ -1,0 +1,93 @@
+-- Rule 7: a plan handed in keeps every range, has no mapping_idc 1, and has 0 in every unused place.
+use mathlib.Core.Bool.{Bool, true, cond, _&&_}
+use mathlib.Core.List.{List, [], _∷_}
+use Prim.Native.Nat.{ℕ, zero, suc, _+_}
+use lib.Dec.{leb, ltb, eqb}
+use lib.IntN.{ℤ, pos, natAbs}
+use lib.ListN.{getD, replicate}
+use Rattle.plan.specs.declared.Header.{Header}
+use Rattle.plan.specs.declared.Piece.{Piece}
+use Rattle.plan.specs.declared.Nlq.{Nlq}
+use Rattle.plan.specs.declared.Component.{Component}
+use Rattle.plan.specs.declared.Plan.{Plan}
+use Rattle.plan.specs.Ranges.{all, header-fits, count-fits, pivot-fits, order-fits, offset-fits, coefficient-fits, unsigned-fits}
+
+-- the test holds of each of 0 .. k - 1
+unfoldable pub every : ℕ → (ℕ → Bool) → Bool
+every zero test = true
+every (suc k) test = every k test && test k
+
+-- n + 2 pivots, n + 1 pieces, poly_order_minus1 + 2 coefficients are used
+abbrev pub pivots-used : Component → ℕ
+pivots-used c = c .n + 2
+
+abbrev pub pieces-used : Component → ℕ
+pieces-used c = c .n + 1
+
+abbrev pub coefficients-used : Piece → ℕ
+coefficients-used q = q .order + 2
+
+-- what stands past the places of an array
+abbrev pub no-piece : Piece
+no-piece = record { idc = 0; order = 0; row = [] }
+
+abbrev pub is-zero : ℤ → Bool
+is-zero z = eqb (natAbs z) 0
+
+-- a row: the first k places keep the range, the others are 0
+unfoldable pub row-fits : Header → ℕ → List ℤ → Bool
+row-fits h k row =
+    every 3
+    (λ j. cond (ltb j k) (coefficient-fits h (getD row j (pos 0))) (is-zero (getD row j (pos 0))))
+
+-- a piece that is used
+unfoldable pub piece-fits : Header → Piece → Bool
+piece-fits h q = eqb (q .idc) 0 && (order-fits (q .order) && row-fits h (coefficients-used q) (q .row))
+
+-- a place for a piece that is not used: all of it is 0
+unfoldable pub piece-empty : Header → Piece → Bool
+piece-empty h q = eqb (q .idc) 0 && (eqb (q .order) 0 && row-fits h 0 (q .row))
+
+unfoldable pub pivots-fit : Header → Component → Bool
+pivots-fit h c =
+    every 17
+    (λ i. cond (ltb i (pivots-used c)) (pivot-fits h (getD (c .preds) i 0)) (eqb (getD (c .preds) i 0) 0))
+
+unfoldable pub pieces-fit : Header → Component → Bool
+pieces-fit h c =
+    every 17
+    (λ p. cond (ltb p (pieces-used c)) (piece-fits h (getD (c .pieces) p no-piece)) (piece-empty h (getD (c .pieces) p no-piece)))
+
+abbrev pub nlq-tests : Header → Nlq → List Bool
+nlq-tests h q = offset-fits h (q .offset) ∷ unsigned-fits h (q .maximum) ∷ unsigned-fits h (q .slope) ∷ unsigned-fits h (q .threshold) ∷ []
+
+unfoldable pub nlq-fits : Header → Nlq → Bool
+nlq-fits h q = all (nlq-tests h q)
+
+unfoldable pub component-fits : Header → Component → Bool
+component-fits h c = count-fits (c .n) && (pivots-fit h c && (pieces-fit h c && nlq-fits h (c .nlq)))
+
+-- the plan passes rule 7
+unfoldable pub fitting : Plan → Bool
+fitting p =
+    header-fits (p .header)
+    && (component-fits (p .header) (p .y) && (component-fits (p .header) (p .cb) && component-fits (p .header) (p .cr)))
+
+-- the plan of zeros, which stands for none: rule 7 refuses it
+abbrev pub no-component : Component
+no-component =
+    record {
+      n = 0;
+      preds = replicate 17 0;
+      pieces = replicate 17 (record { idc = 0; order = 0; row = replicate 3 (pos 0) });
+      nlq = record { offset = 0; maximum = 0; slope = 0; threshold = 0 };
+    }
+
+unfoldable pub no-plan : Plan
+no-plan =
+    record {
+      header = record { profile = 0; level = 0; d = 0; bl = 0; el = 0; hdr = 0; disabled = 0; columns = 0; pairs = 0; brightest = 0; darkest = 0 };
+      y = no-component;
+      cb = no-component;
+      cr = no-component;
+    }

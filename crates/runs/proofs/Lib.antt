@@ -1,0 +1,6 @@
+pub mod Between
+pub mod Painting
+pub mod Testing
+pub mod Counting
+pub mod Filling
+pub mod Largest
