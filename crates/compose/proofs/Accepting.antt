@@ -23,8 +23,7 @@ use Rattle.compose.specs.declared.places.Places.{Places}
 use Rattle.compose.specs.declared.places.Stretch.{Stretch}
 use Rattle.compose.specs.Picture.{picture-size, in-pairs}
 use Rattle.compose.specs.Places.{PairsGiven, Within, places, in-stretch, in-places}
-use Rattle.compose.specs.Kernel.{SpanGiven}
-use Rattle.compose.specs.Planes.{PlanesGiven}
+use Rattle.compose.specs.Planes.{PlaneGiven, PlanesGiven}
 use Rattle.compose.specs.Early.{early-refusal, large-at}
 use Rattle.compose.specs.Composing.{Given, used, wrong-length, wrong-pairs, wrong-sample, refusal, composed-at, answer, output-after, number-of}
 use Rattle.compose.proofs.Geometry.{inside, pairs-places, places-test}
@@ -145,22 +144,19 @@ module _ (h : Header) (enhanced : Bool) (p : Places) (base enhancement : List �
   unfolding large-at
   enhancement-small on = subst (λ (n : ℕ). some (in-places p) (at-least (2 ^ (n + 8))) enhancement ≡ false) same (where-on enhanced _ (neither (some (in-places p) (at-least (2 ^ (h .bl + 8))) base) _ none .1) on)
 
-  span-given : (s : Stretch) (room : ℕ) → ((i : ℕ) → in-stretch s i ≡ true → in-places p i ≡ true) → s .from ≤ s .to → s .to ≤ length base → (enhanced ≡ true → s .to ≤ length enhancement) → s .to ≤ room → SpanGiven (h .bl + 8) enhanced (s .from) (s .to) base enhancement room
-  span-given s room sub f b e o =
+  plane-given : (s : Stretch) (room : ℕ) → ((i : ℕ) → in-stretch s i ≡ true → in-places p i ≡ true) → s .from ≤ s .to → s .to ≤ length base → (enhanced ≡ true → s .to ≤ length enhancement) → s .to ≤ room → PlaneGiven (h .bl + 8) enhanced s base enhancement room
+  plane-given s room sub f b e o =
       record {
-        forward = f;
-        in-base = b;
+        in-base = record { forward = f; inside = b; sample = below p (2 ^ (h .bl + 8)) base base-small s sub b };
+        in-enhancement = λ on. record { forward = f; inside = e on; sample = below p (2 ^ (h .bl + 8)) enhancement (enhancement-small on) s sub (e on) };
         in-output = o;
-        base-sample = below p (2 ^ (h .bl + 8)) base base-small s sub b;
-        in-enhancement = e;
-        enhancement-sample = λ on. below p (2 ^ (h .bl + 8)) enhancement (enhancement-small on) s sub (e on);
       }
 
   pub planes-given : (room : ℕ) → Within p (length base) → (enhanced ≡ true → Within p (length enhancement)) → Within p room → PlanesGiven (h .bl + 8) enhanced p base enhancement room
   unfolding in-places
   planes-given room b e o =
       record {
-        y = span-given (p .y) room (λ i t. rw t) (b .y-forward) (b .y-inside) (λ on. e on .y-inside) (o .y-inside);
-        cb = span-given (p .cb) room (λ i t. rw (t, or-true)) (b .cb-forward) (b .cb-inside) (λ on. e on .cb-inside) (o .cb-inside);
-        cr = span-given (p .cr) room (λ i t. rw (t, or-true)) (b .cr-forward) (b .cr-inside) (λ on. e on .cr-inside) (o .cr-inside);
+        y = plane-given (p .y) room (λ i t. rw t) (b .y-forward) (b .y-inside) (λ on. e on .y-inside) (o .y-inside);
+        cb = plane-given (p .cb) room (λ i t. rw (t, or-true)) (b .cb-forward) (b .cb-inside) (λ on. e on .cb-inside) (o .cb-inside);
+        cr = plane-given (p .cr) room (λ i t. rw (t, or-true)) (b .cr-forward) (b .cr-inside) (λ on. e on .cr-inside) (o .cr-inside);
       }

@@ -1,4 +1,4 @@
-pub mod Steps
 pub mod Geometry
 pub mod Meaning
+pub mod Looking
 pub mod Accepting

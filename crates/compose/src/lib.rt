@@ -8,6 +8,7 @@ mod residual;
 mod rules;
 mod signed;
 mod span;
+mod tables;
 
 use picture::compose_planes;
 use places::places_of;

@@ -1,20 +1,72 @@
 // Row pairs composed, one component after the other.
+use crate::kernel::Kernel;
+use crate::kernel::codes_of;
 use crate::kernel::kernel_of;
 use crate::places::Places;
 use crate::places::Stretch;
 use crate::span::compose_span;
+use crate::span::look_up;
+use crate::tables::finished_of;
+use crate::tables::mapped_of;
+use crate::tables::residuals_of;
 use plan::Component;
 use plan::Header;
 use plan::Plan;
 ghost use mathlib.Core.Path.{_≡_};
-ghost use Prim.Native.Nat.{_+_};
+ghost use mathlib.Core.Bool.{true};
+ghost use Prim.Native.Nat.{_+_, _≤_, _^_};
 ghost use lib.ListN.{length};
 ghost use Rattle.runs.specs.Runs.{painted};
 ghost use Rattle.plan.specs.Facts.{HeaderFacts, ComponentFacts};
-ghost use Rattle.compose.specs.Kernel.{SpanGiven};
+ghost use Rattle.compose.specs.Kernel.{KernelRanges};
+ghost use Rattle.compose.specs.Spans.{SpanGiven};
 ghost use Rattle.compose.specs.Places.{in-stretch};
 ghost use Rattle.compose.specs.Composing.{sample-of};
-ghost use Rattle.compose.specs.Planes.{PlanFacts, PlanesGiven, planes-painted};
+ghost use Rattle.compose.specs.Planes.{PlanFacts, PlaneGiven, PlanesGiven, plain-at, enhanced-at, planes-painted};
+
+fn compose_plain(k: Kernel, codes: u16, out: u32, s: Stretch, base: &[u16], output: &mut [u16])
+    requires { ⌜ KernelRanges k ⌝ }
+    requires { ⌜ codes ≡ 2 ^ k .depth ⌝ }
+    requires { ⌜ (1 ≤ out) × (out ≤ 15) ⌝ }
+    requires { ⌜ SpanGiven (2 ^ k .depth) (s .from) (s .to) (now base) ⌝ }
+    requires { ⌜ s .to ≤ length (now output) ⌝ }
+    ensures { λ _. ⌜ now (output .exit) ≡ painted (in-stretch s) (plain-at k out (now (base .entry))) (now (output .entry)) ⌝ }
+{
+    let mapped = mapped_of(k, codes);
+    let finished = finished_of(out, mapped);
+    look_up(&finished, s.from, s.to, base, output);
+}
+
+fn compose_enhanced(
+    k: Kernel,
+    codes: u16,
+    out: u32,
+    s: Stretch,
+    base: &[u16],
+    enhancement: &[u16],
+    output: &mut [u16],
+)
+    requires { ⌜ KernelRanges k ⌝ }
+    requires { ⌜ codes ≡ 2 ^ k .depth ⌝ }
+    requires { ⌜ (1 ≤ out) × (out ≤ 15) ⌝ }
+    requires { ⌜ SpanGiven (2 ^ k .depth) (s .from) (s .to) (now base) ⌝ }
+    requires { ⌜ SpanGiven (2 ^ k .depth) (s .from) (s .to) (now enhancement) ⌝ }
+    requires { ⌜ s .to ≤ length (now output) ⌝ }
+    ensures { λ _. ⌜ now (output .exit) ≡ painted (in-stretch s) (enhanced-at k out (now (base .entry)) (now (enhancement .entry))) (now (output .entry)) ⌝ }
+{
+    let mapped = mapped_of(k, codes);
+    let residuals = residuals_of(k, codes);
+    compose_span(
+        out,
+        &mapped,
+        &residuals,
+        s.from,
+        s.to,
+        base,
+        enhancement,
+        output,
+    );
+}
 
 fn compose_component(
     h: Header,
@@ -27,11 +79,17 @@ fn compose_component(
 )
     requires { ⌜ HeaderFacts h ⌝ }
     requires { ⌜ ComponentFacts h c ⌝ }
-    requires { ⌜ SpanGiven (h .bl + 8) enhanced (s .from) (s .to) (now base) (now enhancement) (length (now output)) ⌝ }
+    requires { ⌜ PlaneGiven (h .bl + 8) enhanced s (now base) (now enhancement) (length (now output)) ⌝ }
     ensures { λ _. ⌜ now (output .exit) ≡ painted (in-stretch s) (sample-of h c enhanced (now (base .entry)) (now (enhancement .entry))) (now (output .entry)) ⌝ }
 {
-    let k = kernel_of(h, c, enhanced);
-    compose_span(k, s.from, s.to, base, enhancement, output);
+    let k = kernel_of(h, c);
+    let codes = codes_of(h.bl);
+    let out = (h.hdr as u32) + 8;
+    if enhanced {
+        compose_enhanced(k, codes, out, s, base, enhancement, output);
+    } else {
+        compose_plain(k, codes, out, s, base, output);
+    }
 }
 
 pub(crate) fn compose_planes(

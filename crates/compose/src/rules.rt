@@ -1,4 +1,5 @@
 // The rules of a call: 7, 9 and 10 by the plan and the lengths, 11 by the samples.
+use crate::kernel::codes_of;
 use crate::places::Places;
 use crate::places::some_large;
 use plan::Header;
@@ -6,7 +7,6 @@ use plan::Plan;
 use plan::passes;
 ghost use mathlib.Core.Path.{_≡_};
 ghost use mathlib.Core.Bool.{true};
-ghost use Prim.Native.Nat.{_+_, _≤_, _^_};
 ghost use lib.ListN.{length};
 ghost use Rattle.plan.specs.Facts.{HeaderFacts};
 ghost use Rattle.compose.specs.Picture.{picture-size};
@@ -76,14 +76,6 @@ pub(crate) fn early(
     0
 }
 
-// 2 to the power of a bit depth.
-fn limit_of(minus8: u8) -> u16
-    requires { ⌜ minus8 ≤ 2 ⌝ }
-    ensures { λ r. ⌜ r ≡ 2 ^ (minus8 + 8) ⌝ }
-{
-    (1u64 << ((minus8 as u32) + 8)) as u16
-}
-
 // Rule 11, over all the places before anything is written.
 pub(crate) fn is_large(
     h: Header,
@@ -97,11 +89,11 @@ pub(crate) fn is_large(
     requires { ⌜ (enhanced ≡ true → Within p (length (now enhancement))) ⌝ }
     ensures { λ r. ⌜ r ≡ large-at h enhanced p (now (base .entry)) (now (enhancement .entry)) ⌝ }
 {
-    if some_large(p, limit_of(h.bl), base) {
+    if some_large(p, codes_of(h.bl), base) {
         return true;
     }
     if !enhanced {
         return false;
     }
-    some_large(p, limit_of(h.el), enhancement)
+    some_large(p, codes_of(h.el), enhancement)
 }

@@ -57,7 +57,7 @@ loop-again c =
         ap (λ (n : ℕ). n + ps (lp .loop .i)) e ∙ total-more ps (lp .loop .i),
         (
           simp length-set (lp .loop .inv .1 .1 .0),
-          filled-more (lp .loop .pivots) (lp .loop .i) _ (pivot-value ps) (omega arith) (lp .loop .inv .1 .1 .1)
+          filled-more 0 (lp .loop .pivots) (lp .loop .i) _ (pivot-value ps) (omega arith) (lp .loop .inv .1 .1 .1)
               (ap (λ (n : ℕ). n + ps (lp .loop .i)) e ∙ total-pivot ps (lp .loop .i)),
         ),
       ),

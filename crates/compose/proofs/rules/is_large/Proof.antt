@@ -9,13 +9,13 @@ use Rattle.compose.specs.Early.{large-at}
 use Rattle.compose.proofs.rules.is_large.Statement.{statement}
 use Rattle.compose.proofs.rules.is_large.Tie as tie
 
-limit-of-requires : tie.Need-limit-of-requires
-limit-of-requires c κs = search needs
+codes-of-requires : tie.Need-codes-of-requires
+codes-of-requires c κs = search needs
 
 some-large-requires : tie.Need-some-large-requires
 some-large-requires c κs =
     let st : tie.Start = search needs in
-    (st .pre .1 .0, rw (c .limit-of .ensures) (pow-pos (st .args .h .bl + 8)))
+    (st .pre .1 .0, rw (c .codes-of .ensures) (pow-pos (st .args .h .bl + 8)))
 
 -- what the first call found, with the limit as a power of two
 abbrev start : tie.After-some-large → tie.Start
@@ -24,8 +24,8 @@ start c = c .before .before .before .before
 base : (c : tie.After-some-large) → (let a = start c .args in c .some-large .result ≡ some (in-places (a .p)) (at-least (2 ^ (a .h .bl + 8))) (a .base .now))
 base c =
     let a = start c .args in
-    let l : tie.After-limit-of = search needs in
-    c .some-large .ensures ∙ ap (λ (l : ℕ). some (in-places (a .p)) (at-least l) (a .base .now)) (l .limit-of .ensures)
+    let l : tie.After-codes-of = search needs in
+    c .some-large .ensures ∙ ap (λ (l : ℕ). some (in-places (a .p)) (at-least l) (a .base .now)) (l .codes-of .ensures)
 
 returns : tie.Need-returns
 unfolding large-at
@@ -40,14 +40,14 @@ returns-2 c =
     let e : tie.Else1 = search needs in
     rw (sym (base b) ∙ e .if1 .left, not-true (start b .args .enhanced) (c .if2 .taken))
 
-limit-of-requires-2 : tie.Need-limit-of-requires-2
-limit-of-requires-2 c κs = search needs
+codes-of-requires-2 : tie.Need-codes-of-requires-2
+codes-of-requires-2 c κs = search needs
 
 some-large-requires-2 : tie.Need-some-large-requires-2
 some-large-requires-2 c κs =
     let st : tie.Start = search needs in
     let e : tie.Else2 = search needs in
-    (st .pre .1 .1 (not-false _ (e .if2 .left)), rw (c .limit-of2 .ensures) (pow-pos (st .args .h .el + 8)))
+    (st .pre .1 .1 (not-false _ (e .if2 .left)), rw (c .codes-of2 .ensures) (pow-pos (st .args .h .el + 8)))
 
 returns-3 : tie.Need-returns-3
 unfolding large-at
@@ -55,17 +55,17 @@ returns-3 c =
     let b : tie.After-some-large = search needs in
     let e : tie.Else1 = search needs in
     let e2 : tie.Else2 = search needs in
-    let l : tie.After-limit-of2 = search needs in
-    c .some-large2 .ensures ∙ rw (l .limit-of2 .ensures, sym (base b) ∙ e .if1 .left, not-false (start b .args .enhanced) (e2 .if2 .left))
+    let l : tie.After-codes-of2 = search needs in
+    c .some-large2 .ensures ∙ rw (l .codes-of2 .ensures, sym (base b) ∙ e .if1 .left, not-false (start b .args .enhanced) (e2 .if2 .left))
 
 pub is-large-spec : {M : Type 1} → statement M
 is-large-spec =
     tie.close
     (tie.spec
-    limit-of-requires
+    codes-of-requires
     some-large-requires
     returns
     returns-2
-    limit-of-requires-2
+    codes-of-requires-2
     some-large-requires-2
     returns-3)

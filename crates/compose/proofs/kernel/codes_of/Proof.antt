@@ -4,8 +4,8 @@ use Prim.Native.Nat.{_+_, _*_, _%_, _^_}
 use native.Mathlib.Omega.{arith}
 use lib.Pow.{pow-mono}
 use Rattle.plan.proofs.Shifting.{one-shifted}
-use Rattle.compose.proofs.rules.limit_of.Statement.{statement}
-use Rattle.compose.proofs.rules.limit_of.Tie as tie
+use Rattle.compose.proofs.kernel.codes_of.Statement.{statement}
+use Rattle.compose.proofs.kernel.codes_of.Tie as tie
 
 -- nothing is shifted out
 exact : (c : tie.Start) → (1 * 2 ^ (c .args .minus8 + 8)) % 18446744073709551616 ≡ 2 ^ (c .args .minus8 + 8)
@@ -28,5 +28,5 @@ cast-result-2 c =
 returns : tie.Need-returns
 returns c = let st : tie.Start = search needs in exact st
 
-pub limit-of-spec : {M : Type 1} → statement M
-limit-of-spec = tie.close (tie.spec add-result cast-result shl-result cast-result-2 returns)
+pub codes-of-spec : {M : Type 1} → statement M
+codes-of-spec = tie.close (tie.spec add-result cast-result shl-result cast-result-2 returns)
