@@ -19,11 +19,10 @@ pub record RowRanges (depth s : ℕ) (row : List ℤ) : Type 0 where
   pub coefficient : (i : ℕ) → natAbs (coef row i) ≤ 2 ^ 38
 
 -- the mapping step
-pub record StepRanges (depth d first s : ℕ) (row : List ℤ) : Type 0 where
+pub record StepRanges (depth d s : ℕ) (row : List ℤ) : Type 0 where
   pub shallow : depth ≤ 10
   pub fraction : d ≤ 32
   pub sample : s < 2 ^ depth
-  pub lowest : first < 2 ^ depth
   pub coefficient : (i : ℕ) → natAbs (coef row i) ≤ 64 * 2 ^ d
 
 -- the inverse quantization

@@ -38,7 +38,8 @@ pub(crate) fn piece_of(pivots: &[u16; 17], n: usize, s: u16) -> usize
     i
 }
 
-fn clamp(first: u16, last: u16, s: u16) -> u16
+// A sample raised to the first pivot and lowered to the last.
+pub(crate) fn clamp(first: u16, last: u16, s: u16) -> u16
     ensures { λ r. ⌜ r ≡ clamped first last s ⌝ }
 {
     let mut t = s;
@@ -73,12 +74,10 @@ fn cut_at(d: u32, v: i64) -> u16
     q as u16
 }
 
-// The mapping step: a sample, the first and the last pivot, and the row of its piece by value.
-pub(crate) fn map_step(depth: u32, d: u32, first: u16, last: u16, s: u16, row: [i64; 3]) -> u16
-    requires { ⌜ StepRanges depth d first s row ⌝ }
-    ensures { λ r. ⌜ r ≡ cut d (poly-sum depth (clamped first last s) (coef row) 2) ⌝ }
+// The mapping step: a clamped sample, and the row of its piece by value.
+pub(crate) fn map_step(depth: u32, d: u32, s: u16, row: [i64; 3]) -> u16
+    requires { ⌜ StepRanges depth d s row ⌝ }
+    ensures { λ r. ⌜ r ≡ cut d (poly-sum depth s (coef row) 2) ⌝ }
 {
-    let t = clamp(first, last, s);
-    let v = sum_of(depth, t, row);
-    cut_at(d, v)
+    cut_at(d, sum_of(depth, s, row))
 }

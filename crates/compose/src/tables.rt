@@ -1,5 +1,6 @@
 // What every code of a component comes to, worked out once and then looked up: a span has many more samples than there are codes.
 use crate::kernel::Kernel;
+use crate::mapping::clamp;
 use crate::mapping::map_step;
 use crate::mapping::piece_of;
 use crate::reconstruction::reconstruct;
@@ -27,10 +28,11 @@ pub(crate) fn mapped_of(k: Kernel, codes: u16) -> [u16; 1024]
     let mut table = [0u16; 1024];
     let mut s: u16 = 0;
     while s < codes {
+        let t = clamp(pivots[0], pivots[n + 1], s);
         let p = piece_of(&pivots, n, s);
         let piece = pieces[p];
         let row = piece.row;
-        table[s as usize] = map_step(depth, d, pivots[0], pivots[n + 1], s, row);
+        table[s as usize] = map_step(depth, d, t, row);
         s += 1;
     }
     table

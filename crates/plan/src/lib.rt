@@ -1,5 +1,5 @@
 // A plan: every field of a composing block, as a value that travels with each call.
-mod ranges; // the ranges of the header's fields and of a component's numbers
+pub mod ranges; // the ranges of the header's fields and of a component's numbers
 mod places; // a component's places: those that are used keep their range, the others are 0
 
 use places::component_fits;

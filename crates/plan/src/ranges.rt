@@ -46,7 +46,7 @@ fn size_fits(h: Header) -> bool
     columns & (pairs & (brightest & darkest))
 }
 
-pub(crate) fn header_fits(h: Header) -> bool
+pub fn header_fits(h: Header) -> bool
     ensures { λ r. ⌜ r ≡ header-fits h ⌝ }
 {
     format_fits(h) & size_fits(h)

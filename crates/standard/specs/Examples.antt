@@ -1,11 +1,13 @@
--- The worked examples E1 to E14 of the house's rules, as one statement about `mapped`: depth 10 and d = 15 but for E14.
+-- The worked examples: E1 to E14 of the house rules as one statement about `mapped`, and residuals worked by hand.
 use mathlib.Core.Path.{_≡_}
 use mathlib.Core.List.{List, [], _∷_}
 use Prim.Native.Nat.{ℕ, zero, suc, _<_}
 use lib.IntN.{ℤ, pos, negℤ}
 use lib.ListN.{getD}
-use Rattle.standard.specs.Parameters.{Mapping, fp}
+use Rattle.standard.specs.Parameters.{Mapping, Quantization, fp}
 use Rattle.standard.specs.Mapping.{mapped}
+use Rattle.standard.specs.Residual.{residual}
+use Rattle.standard.specs.Reconstruction.{reconstructed}
 
 -- pieces given by their coefficients, from pred_pivot_value's list; every piece has the same order
 abbrev pub pieces : List ℕ → ℕ → ℕ → List (List ℤ) → Mapping
@@ -45,6 +47,7 @@ halves = pieces (0 ∷ 512 ∷ 511 ∷ []) 1 0 ((pos 0 ∷ pos 0 ∷ []) ∷ (c1
 abbrev pub linear8 : Mapping
 linear8 = pieces (0 ∷ 255 ∷ []) 0 0 ((pos 0 ∷ fp 13 (pos 1) 0 ∷ []) ∷ [])
 
+-- E1 to E14; depth 10 and d = 15 but for E14
 pub record WorkedExamples : Type 0 where
   pub e1 : mapped 10 15 linear 0 ≡ 0
   pub e2 : mapped 10 15 linear 1 ≡ 64
@@ -60,3 +63,30 @@ pub record WorkedExamples : Type 0 where
   pub e12 : mapped 10 15 halves 511 ≡ 0
   pub e13 : mapped 10 15 halves 512 ≡ 32768
   pub e14 : mapped 8 13 linear8 255 ≡ 65280
+
+-- inverse quantization and reconstruction, worked by hand from the pseudo-code; slope 5, threshold 4 and maximum 100 in units of 2 ^ -d
+abbrev pub around : ℕ → Quantization
+around offset = record { nlq-offset = offset; fp-hdr-in-max = 100; fp-linear-deadzone-slope = 5; fp-linear-deadzone-threshold = 4 }
+
+pub record WorkedResiduals : Type 0 where
+  -- at the offset: 0, and the threshold is not added
+  pub r1 : residual 10 16 (around 512) 512 ≡ pos 0
+  -- one above: rr = 1, dq = 1 x 5 + (4 << 1) = 13, and 13 >> 1 = 6
+  pub r2 : residual 10 16 (around 512) 513 ≡ pos 6
+  -- one below: dq = -13, and -13 >> 1 rounds down to -7
+  pub r3 : residual 10 16 (around 512) 511 ≡ negℤ (pos 7)
+  -- far above and far below: dq is cut to 100 << 1 and to its negative
+  pub r4 : residual 10 16 (around 512) 612 ≡ pos 100
+  pub r5 : residual 10 16 (around 512) 412 ≡ negℤ (pos 100)
+  -- depth 8: rr = 1 << 2, dq = 4 x 5 + (4 << 3) = 52, and no shift is left
+  pub r6 : residual 8 13 (around 128) 129 ≡ pos 52
+  pub r7 : residual 8 13 (around 128) 127 ≡ negℤ (pos 52)
+  -- 65535 + 32 >> 6 is 1024, one above the largest code of 10 bits
+  pub h1 : reconstructed 10 65535 (pos 0) ≡ 1023
+  -- 31 + 32 is just below a code of 10 bits, 32 + 32 just reaches it
+  pub h2 : reconstructed 10 31 (pos 0) ≡ 0
+  pub h3 : reconstructed 10 32 (pos 0) ≡ 1
+  -- 64 + 8 >> 4
+  pub h4 : reconstructed 12 64 (pos 0) ≡ 4
+  -- -33 + 32 >> 6 is -1, which becomes 0
+  pub h5 : reconstructed 10 0 (negℤ (pos 33)) ≡ 0

@@ -1,10 +1,10 @@
-use mathlib.Core.Path.{_≡_, refl, ap, _∙_}
+use mathlib.Core.Path.{_≡_, refl, ap₂, _∙_}
 use borrow.Author.Needs.{needs}
-use Prim.Native.Nat.{ℕ, _-_, _+_, _<_, _≤_, _^_}
+use Prim.Native.Nat.{ℕ, _-_, _<_, _≤_, _^_}
 use native.Mathlib.Omega.{arith}
 use lib.Pow.{pow-mono}
 use lib.ListN.{length, length-set}
-use Rattle.standard.specs.Mapping.{poly-sum, cut, clamped}
+use Rattle.standard.specs.Mapping.{poly-sum, cut}
 use Rattle.runs.proofs.Filling.{filled-more}
 use Rattle.compose.specs.Ranges.{at, coef}
 use Rattle.compose.specs.Kernel.{row-of, kernel-mapped}
@@ -25,6 +25,29 @@ few st = omega (arith, st .pre .1, pow-mono {j = 10} (st .pre .0 .shallow))
 
 loop-holds : tie.Need-loop-holds Inv-loop μ-loop
 loop-holds c = (omega arith, (refl, λ j h. omega arith))
+
+array-read-clamp : tie.Need-array-read-clamp Inv-loop μ-loop
+array-read-clamp c =
+    let st : tie.Start Inv-loop μ-loop = search needs in
+    omega (arith, st .pre .0 .count)
+
+add-clamp : tie.Need-add-clamp Inv-loop μ-loop
+add-clamp c =
+    let st : tie.Start Inv-loop μ-loop = search needs in
+    omega (arith, st .pre .0 .count)
+
+mul-clamp : tie.Need-mul-clamp Inv-loop μ-loop
+mul-clamp c =
+    let st : tie.Start Inv-loop μ-loop = search needs in
+    omega (arith, st .pre .0 .count)
+
+array-read-clamp-2 : tie.Need-array-read-clamp-2 Inv-loop μ-loop
+array-read-clamp-2 c =
+    let st : tie.Start Inv-loop μ-loop = search needs in
+    omega (arith, st .pre .0 .count)
+
+clamp-requires : tie.Need-clamp-requires Inv-loop μ-loop
+clamp-requires c κs = search needs
 
 piece-of-requires : tie.Need-piece-of-requires Inv-loop μ-loop
 piece-of-requires c κs =
@@ -47,38 +70,17 @@ array-copy-out-piece c =
     let p : tie.After-piece-of Inv-loop μ-loop = search needs in
     omega (arith, low p)
 
-array-read-map-step : tie.Need-array-read-map-step Inv-loop μ-loop
-array-read-map-step c =
-    let st : tie.Start Inv-loop μ-loop = search needs in
-    omega (arith, st .pre .0 .count)
-
-add-map-step : tie.Need-add-map-step Inv-loop μ-loop
-add-map-step c =
-    let st : tie.Start Inv-loop μ-loop = search needs in
-    omega (arith, st .pre .0 .count)
-
-mul-map-step : tie.Need-mul-map-step Inv-loop μ-loop
-mul-map-step c =
-    let st : tie.Start Inv-loop μ-loop = search needs in
-    omega (arith, st .pre .0 .count)
-
-array-read-map-step-2 : tie.Need-array-read-map-step-2 Inv-loop μ-loop
-array-read-map-step-2 c =
-    let st : tie.Start Inv-loop μ-loop = search needs in
-    omega (arith, st .pre .0 .count)
-
 map-step-requires : tie.Need-map-step-requires Inv-loop μ-loop
 map-step-requires c κs =
     let st : tie.Start Inv-loop μ-loop = search needs in
-    let lp : tie.At-loop Inv-loop μ-loop = search needs in
     let il : tie.In-loop Inv-loop μ-loop = search needs in
+    let t : tie.After-clamp Inv-loop μ-loop = search needs in
     let p : tie.After-piece-of Inv-loop μ-loop = search needs in
     let g = st .pre .0 in
     record {
       shallow = g .shallow;
       fraction = g .fraction;
-      sample = omega (arith, il .loop-test, st .pre .1);
-      lowest = g .lowest;
+      sample = omega (arith, t .clamp .ensures, il .loop-test, st .pre .1, g .lowest);
       coefficient = g .coefficient (p .piece-of .result);
     }
 
@@ -108,15 +110,14 @@ unfolding kernel-mapped
 loop-again c =
     let st : tie.Start Inv-loop μ-loop = search needs in
     let lp : tie.At-loop Inv-loop μ-loop = search needs in
+    let t : tie.After-clamp Inv-loop μ-loop = search needs in
     let p : tie.After-piece-of Inv-loop μ-loop = search needs in
-    let k = st .args .k in
-    let s = lp .loop .s in (
+    let k = st .args .k in (
       omega arith,
       (
         simp length-set (lp .loop .inv .1 .0),
-        filled-more 0 (lp .loop .table) s _ (kernel-mapped (k .depth) (k .d) (k .n) (k .pivots) (k .pieces)) (omega (arith, few st, lp .loop .inv .1 .0)) (lp .loop .inv .1 .1)
-            (c .map-step .ensures
-            ∙ ap (λ (q : ℕ). cut (k .d) (poly-sum (k .depth) (clamped (at (k .pivots) 0) (at (k .pivots) (k .n + 1)) s) (coef (row-of (k .pieces) q)) 2)) (p .piece-of .ensures .0)),
+        filled-more 0 (lp .loop .table) (lp .loop .s) _ (kernel-mapped (k .depth) (k .d) (k .n) (k .pivots) (k .pieces)) (omega (arith, few st, lp .loop .inv .1 .0)) (lp .loop .inv .1 .1)
+            (c .map-step .ensures ∙ ap₂ (λ (x q : ℕ). cut (k .d) (poly-sum (k .depth) x (coef (row-of (k .pieces) q)) 2)) (t .clamp .ensures) (p .piece-of .ensures .0)),
       ),
     )
 
@@ -133,13 +134,14 @@ mapped-of-spec =
     Inv-loop
     μ-loop
     loop-holds
+    array-read-clamp
+    add-clamp
+    mul-clamp
+    array-read-clamp-2
+    clamp-requires
     piece-of-requires
     mul-piece
     array-copy-out-piece
-    array-read-map-step
-    add-map-step
-    mul-map-step
-    array-read-map-step-2
     map-step-requires
     cast-table
     mul-table

@@ -1,0 +1,16 @@
+pub mod Numbers
+pub mod Following
+pub mod Judging
+pub mod Bytes
+pub mod Filling
+pub mod Ending
+pub mod Parts
+pub mod Answers
+pub mod Cascade
+pub mod Accepting
+pub mod Places
+pub mod Ranged
+pub mod Fitting
+pub mod Staying
+pub mod Determined
+pub mod Suffix

@@ -1,0 +1,82 @@
+-- `read_header` meets its contract. Assumes nothing.
+use borrow.Author.Needs.{needs}
+use Rattle.block.specs.Reading.{header}
+use Rattle.block.proofs.frame.read_header.Statement.{statement}
+use Rattle.block.proofs.frame.read_header.Tie as tie
+
+one-requires : tie.Need-one-requires
+one-requires c κs = search needs
+
+one-requires-2 : tie.Need-one-requires-2
+one-requires-2 c κs = search needs
+
+one-requires-3 : tie.Need-one-requires-3
+one-requires-3 c κs = search needs
+
+one-requires-4 : tie.Need-one-requires-4
+one-requires-4 c κs = search needs
+
+one-requires-5 : tie.Need-one-requires-5
+one-requires-5 c κs = search needs
+
+one-requires-6 : tie.Need-one-requires-6
+one-requires-6 c κs = search needs
+
+one-requires-7 : tie.Need-one-requires-7
+one-requires-7 c κs = search needs
+
+two-requires : tie.Need-two-requires
+two-requires c κs = search needs
+
+two-requires-2 : tie.Need-two-requires-2
+two-requires-2 c κs = search needs
+
+two-requires-3 : tie.Need-two-requires-3
+two-requires-3 c κs = search needs
+
+four-requires : tie.Need-four-requires
+four-requires c κs = search needs
+
+returns : tie.Need-returns
+unfolding header
+returns c =
+    let one′ : tie.After-one = search needs in
+    let one2′ : tie.After-one2 = search needs in
+    let one3′ : tie.After-one3 = search needs in
+    let one4′ : tie.After-one4 = search needs in
+    let one5′ : tie.After-one5 = search needs in
+    let one6′ : tie.After-one6 = search needs in
+    let one7′ : tie.After-one7 = search needs in
+    let two′ : tie.After-two = search needs in
+    let two2′ : tie.After-two2 = search needs in
+    let two3′ : tie.After-two3 = search needs in
+    rw (
+      one′ .one .ensures,
+      one2′ .one2 .ensures,
+      one3′ .one3 .ensures,
+      one4′ .one4 .ensures,
+      one5′ .one5 .ensures,
+      one6′ .one6 .ensures,
+      one7′ .one7 .ensures,
+      two′ .two .ensures,
+      two2′ .two2 .ensures,
+      two3′ .two3 .ensures,
+      c .four .ensures,
+    )
+
+pub read-header-spec : {M : Type 1} → statement M
+read-header-spec =
+    tie.close
+    (tie.spec
+    one-requires
+    one-requires-2
+    one-requires-3
+    one-requires-4
+    one-requires-5
+    one-requires-6
+    one-requires-7
+    two-requires
+    two-requires-2
+    two-requires-3
+    four-requires
+    returns)

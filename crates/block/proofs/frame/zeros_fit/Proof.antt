@@ -1,0 +1,25 @@
+-- `zeros_fit` meets its contract. Assumes nothing.
+use mathlib.Core.Bool.{and-true}
+use borrow.Author.Needs.{needs}
+use Rattle.block.specs.Reading.{zeros-fit}
+use Rattle.block.proofs.frame.zeros_fit.Statement.{statement}
+use Rattle.block.proofs.frame.zeros_fit.Tie as tie
+
+one-requires : tie.Need-one-requires
+one-requires c κs = search needs
+
+two-requires : tie.Need-two-requires
+two-requires c κs = search needs
+
+four-requires : tie.Need-four-requires
+four-requires c κs = search needs
+
+returns : tie.Need-returns
+unfolding zeros-fit
+returns c =
+    let a : tie.After-one = search needs in
+    let b : tie.After-two = search needs in
+    rw (a .one .ensures, b .two .ensures, c .four .ensures, and-true)
+
+pub zeros-fit-spec : {M : Type 1} → statement M
+zeros-fit-spec = tie.close (tie.spec one-requires two-requires four-requires returns)

@@ -1,0 +1,72 @@
+-- Demand 3: what any sequence of jobs leaves after one accepted opening, in any order, overlapping, repeated, refused ones between.
+use mathlib.Core.Path.{_≡_}
+use mathlib.Core.Bool.{Bool, true, false, not, _&&_, _||_, cond}
+use mathlib.Core.List.{List, [], _∷_, _++_}
+use Prim.Native.Nat.{ℕ, zero, suc, _+_, _<_}
+use lib.ListN.{length, getD}
+use Rattle.plan.specs.declared.Plan.{Plan}
+use Rattle.compose.specs.Picture.{pair-at}
+use Rattle.compose.specs.Composing.{composed-at}
+use Rattle.jobs.specs.Opening.{opening-accepted, opening-marks}
+use Rattle.jobs.specs.Jobs.{Job, accepted, names, output-after, marks-after, job-answer}
+use Rattle.jobs.specs.declared.Answer.{Answer}
+use Rattle.jobs.specs.declared.Answer.the-variants.{Done}
+
+-- the memory that jobs write, and what one job and then a sequence of jobs leaves in it
+pub record Memory : Type 0 where
+  pub output : List ℕ
+  pub marks : List ℕ
+
+abbrev pub step : Job → Memory → Memory
+step j m = record { output = output-after j (m .output) (m .marks); marks = marks-after j (m .output) (m .marks) }
+
+unfoldable pub run : List Job → Memory → Memory
+run [] m = m
+run (j ∷ js) m = run js (step j m)
+
+-- the memory after an opening, from any output and any marks
+abbrev pub opened : Plan → List ℕ → List ℕ → Memory
+opened p output marks = record { output = output; marks = opening-marks p marks }
+
+-- some accepted job of the sequence named row pair k; a and b are the lengths of the output and of the marks
+unfoldable pub named : ℕ → ℕ → List Job → ℕ → Bool
+named a b [] k = false
+named a b (j ∷ js) k = (accepted j a b && names j k) || named a b js k
+
+-- how many of 0 .. n - 1 pass the test
+unfoldable pub count-below : (ℕ → Bool) → ℕ → ℕ
+count-below test zero = 0
+count-below test (suc n) = count-below test n + cond (test n) 1 0
+
+-- the premises on one job: it is given the open ticket as the opening handed it back; and if it is accepted, the
+-- opening's plan, the same base samples and, unless the flag disables it, the same enhancement samples
+pub record Keeps (p : Plan) (ticket : ℕ) (base enhancement : List ℕ) (a b : ℕ) (j : Job) : Type 0 where
+  pub same-ticket : j .open-ticket ≡ ticket
+  pub same-plan : accepted j a b ≡ true → j .plan ≡ p
+  pub same-base : accepted j a b ≡ true → j .base ≡ base
+  pub same-enhancement : accepted j a b ≡ true → p .header .disabled ≡ 0 → j .enhancement ≡ enhancement
+
+pub data AllKeep (p : Plan) (ticket : ℕ) (base enhancement : List ℕ) (a b : ℕ) : List Job → Type 0 where
+  none : AllKeep p ticket base enhancement a b []
+  more : {j : Job} {js : List Job} → Keeps p ticket base enhancement a b j → AllKeep p ticket base enhancement a b js → AllKeep p ticket base enhancement a b (j ∷ js)
+
+-- what demand 3 says after the jobs js, and of one job more
+pub record StaysFinished (p : Plan) (ticket : ℕ) (base enhancement output marks : List ℕ) (js : List Job) : Type 0 where
+  -- each row pair that some accepted job named holds what demand 2 says
+  pub composed : (i : ℕ) → i < length output → named (length output) (length marks) js (pair-at (p .header) i) ≡ true → getD (run js (opened p output marks) .output) i 0 ≡ composed-at p base enhancement i
+  -- every other row is as at the opening
+  pub others : (i : ℕ) → i < length output → named (length output) (length marks) js (pair-at (p .header) i) ≡ false → getD (run js (opened p output marks) .output) i 0 ≡ getD output i 0
+  -- the output is as long as it was
+  pub size : length (run js (opened p output marks) .output) ≡ length output
+  -- the next job, if it is accepted, answers the count of row pairs that no accepted job so far, itself included, has named
+  pub rows-left : (j : Job) → Keeps p ticket base enhancement (length output) (length marks) j → accepted j (length output) (length marks) ≡ true →
+      job-answer j (run js (opened p output marks) .output) (run js (opened p output marks) .marks)
+      ≡ Done (count-below (λ k. not (named (length output) (length marks) (js ++ (j ∷ [])) k)) (p .header .pairs))
+
+-- demand 3, of every plan, ticket, picture, memory and sequence of jobs
+abbrev pub StandbyNight : Type 0
+StandbyNight =
+    (p : Plan) (ticket : ℕ) (base enhancement output marks : List ℕ) (js : List Job) →
+    opening-accepted p (length marks) ≡ true →
+    AllKeep p ticket base enhancement (length output) (length marks) js →
+    StaysFinished p ticket base enhancement output marks js

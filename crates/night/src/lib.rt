@@ -1,0 +1,1 @@
+// The theorem of the standby night stands in specs/Night.antt.

@@ -1,0 +1,65 @@
+use mathlib.Core.Path.{_≡_, refl}
+use mathlib.Core.Path.{ap, _∙_}
+use borrow.Author.Needs.{needs}
+use Prim.Native.Nat.{_≤_, _-_}
+use native.Mathlib.Omega.{arith}
+use lib.ListN.{length, length-set}
+use Rattle.sample_vectors.proofs.untouch.Statement.{statement}
+use Rattle.sample_vectors.proofs.untouch.Tie as tie
+
+abbrev Inv-loop : tie.InvT-loop
+Inv-loop run₀ i₀ run i = (i ≤ length run) × (length run ≡ length run₀)
+
+abbrev μ-loop : tie.MeasureT-loop
+μ-loop run₀ i₀ run i = length run - i
+
+loop-holds : tie.Need-loop-holds Inv-loop μ-loop
+loop-holds c = (omega arith, refl)
+
+cast-run : tie.Need-cast-run Inv-loop μ-loop
+cast-run c = search needs
+
+add-run : tie.Need-add-run Inv-loop μ-loop
+add-run c = search needs
+
+mul-run : tie.Need-mul-run Inv-loop μ-loop
+mul-run c = search needs
+
+slice-write-run : tie.Need-slice-write-run Inv-loop μ-loop
+slice-write-run c = search needs
+
+add-i : tie.Need-add-i Inv-loop μ-loop
+add-i c = search needs
+
+loop-less : tie.Need-loop-less Inv-loop μ-loop
+loop-less c = simp length-set (omega arith)
+
+loop-again : tie.Need-loop-again Inv-loop μ-loop
+loop-again c =
+    let lp : tie.At-loop Inv-loop μ-loop = search needs in
+    (simp length-set (omega arith), simp length-set (lp .loop .inv .1))
+
+same-length : tie.Need-same-length Inv-loop μ-loop
+same-length c =
+    let lp : tie.At-loop Inv-loop μ-loop = search needs in
+    lp .loop .inv .1
+
+returns : tie.Need-returns Inv-loop μ-loop
+returns c = search needs
+
+pub untouch-spec : {M : Type 1} → statement M
+untouch-spec =
+    tie.close
+    (tie.spec
+    Inv-loop
+    μ-loop
+    loop-holds
+    cast-run
+    add-run
+    mul-run
+    slice-write-run
+    add-i
+    loop-less
+    loop-again
+    same-length
+    returns)

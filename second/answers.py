@@ -1,0 +1,124 @@
+"""Answers the two vector streams; README.md gives their formats.
+
+    python3 answers.py sample_vectors < stdin > stdout
+    python3 answers.py block_vectors < stdin > stdout
+"""
+
+import struct
+import sys
+
+import block
+import jobs
+from composer import PIECE_PLACES
+
+
+class Stream:
+    """Takes big-endian numbers and byte strings from the front."""
+
+    def __init__(self, data):
+        self.data = data
+        self.at = 0
+
+    def more(self):
+        return self.at < len(self.data)
+
+    def bytes(self, size):
+        if self.at + size > len(self.data):
+            raise ValueError("the stream ends inside a case")
+        part = self.data[self.at:self.at + size]
+        self.at += size
+        return part
+
+    def u8(self):
+        return self.bytes(1)[0]
+
+    def u16(self):
+        return struct.unpack(">H", self.bytes(2))[0]
+
+    def samples(self):
+        size = self.u16()
+        return list(struct.unpack(">%dH" % size, self.bytes(2 * size)))
+
+
+def untouched_output(size):
+    """The output run before a call: it shows rows that nobody wrote."""
+    return [60000 + at % 1000 for at in range(size)]
+
+
+def sample_answers(data):
+    """One line a case: the whole output run, or the refusal."""
+    stream = Stream(data)
+    lines = []
+    while stream.more():
+        lines.append(_sample_answer(stream))
+    return lines
+
+
+def _sample_answer(stream):
+    number, plan = block.read(stream.bytes(stream.u16()))
+    if number != 0:
+        raise ValueError("a composing case has to bring a valid block")
+    first, count = stream.u16(), stream.u16()
+    base, enhancement = stream.samples(), stream.samples()
+    output = untouched_output(plan.picture_samples)
+    number, composed = jobs.job(plan, first, count, base, enhancement, output)
+    if number != 0:
+        return "refused %d" % number
+    return " ".join(str(sample) for sample in composed)
+
+
+def block_answers(data):
+    """One line a case: the plan's places that are not zero, or the refusal."""
+    stream = Stream(data)
+    bases = [stream.bytes(stream.u16()) for _ in range(stream.u8())]
+    lines = []
+    while stream.more():
+        lines.append(_block_answer(stream, bases))
+    return lines
+
+
+def _block_answer(stream, bases):
+    edited = bytearray(bases[stream.u8()])
+    start, stop = stream.u16(), stream.u16()
+    for _ in range(stream.u8()):
+        offset = stream.u16()
+        edited[offset] = stream.u8()
+    number, plan = block.read(edited[start:stop])
+    if number != 0:
+        return "refused %d" % number
+    shown = ["%d:%d" % place for place in enumerate(places(plan)) if place[1] != 0]
+    return " ".join(["plan"] + shown)
+
+
+def places(plan):
+    """Every place of a plan in the order in which the vectors number them."""
+    out = [plan.ccm_profile, plan.ccm_level, plan.coefficient_log2_denom,
+           plan.BL_bit_depth_minus8, plan.EL_bit_depth_minus8,
+           plan.hdr_bit_depth_minus8, plan.disable_residual_flag,
+           plan.half_width, plan.half_height,
+           plan.max_display_mastering_luminance,
+           plan.min_display_mastering_luminance]
+    for cmp in range(3):
+        out.append(plan.num_pivots_minus2[cmp])
+        out.extend(plan.pred_pivot_value[cmp])
+        for piece in range(PIECE_PLACES):
+            out.append(plan.mapping_idc[cmp][piece])
+            out.append(plan.poly_order_minus1[cmp][piece])
+            out.extend(plan.fp_poly_coef[cmp][piece])
+        out.append(plan.nlq_offset[cmp])
+        out.append(plan.fp_hdr_in_max[cmp])
+        out.append(plan.fp_linear_deadzone_slope[cmp])
+        out.append(plan.fp_linear_deadzone_threshold[cmp])
+    return out
+
+
+def main():
+    answers = {"sample_vectors": sample_answers, "block_vectors": block_answers}
+    if len(sys.argv) != 2 or sys.argv[1] not in answers:
+        sys.exit("usage: answers.py sample_vectors|block_vectors < stdin")
+    for line in answers[sys.argv[1]](sys.stdin.buffer.read()):
+        print(line)
+
+
+if __name__ == "__main__":
+    main()

@@ -1,0 +1,192 @@
+"""The composing block of document 01: reading it and writing it (version 1).
+
+Order of the answers (document 01, "Reading"): under 12 bytes 1, then 2, then
+the rest of 1, then 4, then the sections from first byte to last, each field
+for 3 and then for 5 or 6, and each section's left-over bytes (3) at its end.
+"""
+
+import struct
+
+from composer import Plan
+
+TRAILER_BYTES = 12
+HEADER_BYTES = 24
+LISTED_PROFILES = (1, 3, 4)     # GS CCM 001, clauses A.2.1 to A.2.3
+LISTED_LEVELS = (0,)            # GS CCM 001, table A.1
+
+
+class Refusal(Exception):
+    """Carries the refusal number of document 01."""
+
+    def __init__(self, number):
+        super().__init__(number)
+        self.number = number
+
+
+def read(data):
+    """Give (0, plan), or (1..6, None); None stands for the all-zero plan."""
+    try:
+        return 0, _read_block(bytes(data))
+    except Refusal as refusal:
+        return refusal.number, None
+
+
+def _read_block(data):
+    if len(data) < TRAILER_BYTES:
+        raise Refusal(1)
+    t = len(data) - TRAILER_BYTES
+    A, D0, D1, D2, version, zero = struct.unpack_from(">6H", data, t)
+    if version != 1 or zero != 0 or A - D0 != 24 or not D0 > D1 > D2 > 0:
+        raise Refusal(2)
+    if A > t:
+        raise Refusal(1)
+    plan = _read_header(data[t - A:t - D0])
+    _read_section(plan, 0, data[t - D0:t - D1])
+    _read_section(plan, 1, data[t - D1:t - D2])
+    _read_section(plan, 2, data[t - D2:t])
+    return plan
+
+
+def _read_header(header):
+    """Document 01, table of the header; every fault is 4."""
+    (profile, level, d, bl, el, hdr, flag, zero7, half_width, half_height,
+     lum_max, zero14, lum_min, zero20) = struct.unpack(">8B4HII", header)
+    plan = Plan(
+        ccm_profile=profile, ccm_level=level, coefficient_log2_denom=d,
+        BL_bit_depth_minus8=bl, EL_bit_depth_minus8=el,
+        hdr_bit_depth_minus8=hdr, disable_residual_flag=flag,
+        half_width=half_width, half_height=half_height,
+        max_display_mastering_luminance=lum_max,
+        min_display_mastering_luminance=lum_min)
+    if zero7 != 0 or zero14 != 0 or zero20 != 0 or not header_in_range(plan):
+        raise Refusal(4)
+    return plan
+
+
+def header_in_range(plan):
+    """Document 01, column "Allowed" of the header, on the plan's fields."""
+    return (plan.ccm_profile in LISTED_PROFILES
+            and plan.ccm_level in LISTED_LEVELS
+            and plan.BL_bit_depth_minus8 in (0, 2)
+            and plan.EL_bit_depth_minus8 in (0, 2)
+            and plan.BL_bit_depth_minus8 == plan.EL_bit_depth_minus8
+            and plan.EL_bit_depth + 5 <= plan.coefficient_log2_denom <= 32
+            and plan.hdr_bit_depth_minus8 in (2, 4)
+            and plan.disable_residual_flag in (0, 1)
+            and 1 <= plan.half_width <= 2048
+            and 1 <= plan.half_height <= 1152
+            and 0 <= plan.max_display_mastering_luminance <= 10000
+            and 0 <= plan.min_display_mastering_luminance
+            < 10000 * plan.max_display_mastering_luminance)
+
+
+class _Fields:
+    """Takes the fields of one section in order; one too long is refused 3."""
+
+    def __init__(self, section):
+        self.section = section
+        self.at = 0
+
+    def take(self, size, signed=False):
+        if self.at + size > len(self.section):
+            raise Refusal(3)
+        field = self.section[self.at:self.at + size]
+        self.at += size
+        return int.from_bytes(field, "big", signed=signed)
+
+    def end(self):
+        if self.at != len(self.section):
+            raise Refusal(3)
+
+
+def _in_range(value, low, high):
+    """Hand the value back when low <= value <= high, else refuse 5."""
+    if not low <= value <= high:
+        raise Refusal(5)
+    return value
+
+
+def _take_fixed_point(fields, low, high, d):
+    """An integer part from low to high and a fraction below 2^d: two fields."""
+    integer = _in_range(fields.take(1, signed=low < 0), low, high)
+    fraction = _in_range(fields.take(4), 0, (1 << d) - 1)
+    return integer * (1 << d) + fraction
+
+
+def _take_mapping_idc(fields, cmp):
+    mapping_idc = fields.take(1)
+    if mapping_idc == 1 and cmp in (1, 2):
+        raise Refusal(6)
+    return _in_range(mapping_idc, 0, 0)
+
+
+def _read_section(plan, cmp, section):
+    """Document 01, "Section, in order"."""
+    d = plan.coefficient_log2_denom
+    fields = _Fields(section)
+    n = _in_range(fields.take(1), 0, 15)
+    plan.num_pivots_minus2[cmp] = n
+    for i in range(n + 2):
+        plan.pred_pivot_value[cmp][i] = _in_range(
+            fields.take(2), 0, (1 << plan.BL_bit_depth) - 1)
+    for piece in range(n + 1):
+        plan.mapping_idc[cmp][piece] = _take_mapping_idc(fields, cmp)
+        order = _in_range(fields.take(1), 0, 1)
+        plan.poly_order_minus1[cmp][piece] = order
+        for i in range(order + 2):
+            plan.fp_poly_coef[cmp][piece][i] = _take_fixed_point(fields, -64, 63, d)
+    plan.nlq_offset[cmp] = _in_range(fields.take(2), 0, (1 << plan.EL_bit_depth) - 1)
+    plan.fp_hdr_in_max[cmp] = _take_fixed_point(fields, 0, 1, d)
+    plan.fp_linear_deadzone_slope[cmp] = _take_fixed_point(fields, 0, 1, d)
+    plan.fp_linear_deadzone_threshold[cmp] = _take_fixed_point(fields, 0, 1, d)
+    fields.end()
+
+
+def write(plan):
+    """The block of a plan in range; used to make vectors, so nothing is tested."""
+    sections = [section_bytes(plan, cmp) for cmp in range(3)]
+    return assemble(header_bytes(plan), sections)
+
+
+def assemble(header, sections):
+    """Header, sections, and the trailer that fits them."""
+    D2 = len(sections[2])
+    D1 = D2 + len(sections[1])
+    D0 = D1 + len(sections[0])
+    trailer = struct.pack(">6H", D0 + len(header), D0, D1, D2, 1, 0)
+    return header + b"".join(sections) + trailer
+
+
+def header_bytes(plan):
+    return struct.pack(
+        ">8B4HII",
+        plan.ccm_profile, plan.ccm_level, plan.coefficient_log2_denom,
+        plan.BL_bit_depth_minus8, plan.EL_bit_depth_minus8,
+        plan.hdr_bit_depth_minus8, plan.disable_residual_flag, 0,
+        plan.half_width, plan.half_height,
+        plan.max_display_mastering_luminance, 0,
+        plan.min_display_mastering_luminance, 0)
+
+
+def section_bytes(plan, cmp):
+    d = plan.coefficient_log2_denom
+    n = plan.num_pivots_minus2[cmp]
+    out = bytearray([n])
+    for i in range(n + 2):
+        out += struct.pack(">H", plan.pred_pivot_value[cmp][i])
+    for piece in range(n + 1):
+        order = plan.poly_order_minus1[cmp][piece]
+        out += bytes([plan.mapping_idc[cmp][piece], order])
+        for i in range(order + 2):
+            out += _fixed_point_bytes(plan.fp_poly_coef[cmp][piece][i], d)
+    out += struct.pack(">H", plan.nlq_offset[cmp])
+    out += _fixed_point_bytes(plan.fp_hdr_in_max[cmp], d)
+    out += _fixed_point_bytes(plan.fp_linear_deadzone_slope[cmp], d)
+    out += _fixed_point_bytes(plan.fp_linear_deadzone_threshold[cmp], d)
+    return bytes(out)
+
+
+def _fixed_point_bytes(number, d):
+    """The fraction adds upward, also below zero: the integer part rounds down."""
+    integer = number >> d
+    return struct.pack(">bI", integer, number - (integer << d))

@@ -1,0 +1,100 @@
+"""Jobs of document 01 without tickets and marks: rules 7, 9, 10 and 11."""
+
+from composer import (COEF_PLACES, PIECE_PLACES, PIVOT_PLACES, compose_row_pairs,
+                      enhancement_used, row_pair_samples)
+from block import header_in_range
+
+
+def job(plan, first, count, base, enhancement, output):
+    """Give (0, the new output run), or (7, 9, 10 or 11, None)."""
+    number = refusal(plan, first, count, base, enhancement, output)
+    if number != 0:
+        return number, None
+    return 0, compose_row_pairs(plan, first, count, base, enhancement, output)
+
+
+def refusal(plan, first, count, base, enhancement, output):
+    """The first rule that is broken, in document 01's order; 0 if none is."""
+    if breaks_rule_7(plan):
+        return 7
+    if breaks_rule_9(plan, base, enhancement, output):
+        return 9
+    if breaks_rule_10(plan, first, count):
+        return 10
+    if breaks_rule_11(plan, first, count, base, enhancement):
+        return 11
+    return 0
+
+
+def breaks_rule_7(plan):
+    """A range, a mapping_idc other than 0, or an unused place that is not 0."""
+    if not header_in_range(plan):
+        return True
+    return not all(_component_in_range(plan, cmp) for cmp in range(3))
+
+
+def _component_in_range(plan, cmp):
+    n = plan.num_pivots_minus2[cmp]
+    if not 0 <= n <= 15:
+        return False
+    return (_pivots_in_range(plan, cmp, n)
+            and all(_piece_in_range(plan, cmp, piece) for piece in range(n + 1))
+            and all(_piece_is_zero(plan, cmp, piece)
+                    for piece in range(n + 1, PIECE_PLACES))
+            and _quantization_in_range(plan, cmp))
+
+
+def _pivots_in_range(plan, cmp, n):
+    pred_pivot_value = plan.pred_pivot_value[cmp]
+    return (all(0 <= pred_pivot_value[i] < 1 << plan.BL_bit_depth
+                for i in range(n + 2))
+            and all(pred_pivot_value[i] == 0 for i in range(n + 2, PIVOT_PLACES)))
+
+
+def _piece_in_range(plan, cmp, piece):
+    d = plan.coefficient_log2_denom
+    order = plan.poly_order_minus1[cmp][piece]
+    coef = plan.fp_poly_coef[cmp][piece]
+    if plan.mapping_idc[cmp][piece] != 0 or order not in (0, 1):
+        return False
+    return (all(-64 << d <= coef[i] < 64 << d for i in range(order + 2))
+            and all(coef[i] == 0 for i in range(order + 2, COEF_PLACES)))
+
+
+def _piece_is_zero(plan, cmp, piece):
+    return (plan.mapping_idc[cmp][piece] == 0
+            and plan.poly_order_minus1[cmp][piece] == 0
+            and all(coef == 0 for coef in plan.fp_poly_coef[cmp][piece]))
+
+
+def _quantization_in_range(plan, cmp):
+    d = plan.coefficient_log2_denom
+    return (0 <= plan.nlq_offset[cmp] < 1 << plan.EL_bit_depth
+            and 0 <= plan.fp_hdr_in_max[cmp] < 2 << d
+            and 0 <= plan.fp_linear_deadzone_slope[cmp] < 2 << d
+            and 0 <= plan.fp_linear_deadzone_threshold[cmp] < 2 << d)
+
+
+def breaks_rule_9(plan, base, enhancement, output):
+    """A lent run of the wrong length (there are no marks here)."""
+    size = plan.picture_samples
+    if len(base) != size or len(output) != size:
+        return True
+    return enhancement_used(plan, enhancement) and len(enhancement) != size
+
+
+def breaks_rule_10(plan, first, count):
+    """No row pair, or one that the picture does not have."""
+    return count == 0 or first + count > plan.half_height
+
+
+def breaks_rule_11(plan, first, count, base, enhancement):
+    """A sample of the job's row pairs that its depth does not hold."""
+    used = enhancement_used(plan, enhancement)
+    for k in range(first, first + count):
+        for _, at in row_pair_samples(plan, k):
+            if base[at] >= 1 << plan.BL_bit_depth:
+                return True
+            if used and enhancement[at] >= 1 << plan.EL_bit_depth:
+                return True
+    return False

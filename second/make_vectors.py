@@ -1,0 +1,140 @@
+"""Makes the vectors, or checks the stored ones.
+
+    python3 make_vectors.py OUTDIR            writes the four files
+    python3 make_vectors.py --check OUTDIR    exit 1 if one differs or is missing
+"""
+
+import os
+import struct
+import sys
+from collections import Counter
+
+import answers
+import block
+import block_cases
+import composer
+import sample_cases
+
+
+def u16_run(values):
+    return struct.pack(">H%dH" % len(values), len(values), *values)
+
+
+def sample_stream(cases):
+    """stdin of sample_vectors."""
+    out = bytearray()
+    for case in cases:
+        data = block.write(case.plan)
+        out += struct.pack(">H", len(data)) + data
+        out += struct.pack(">HH", case.first, case.count)
+        out += u16_run(case.base) + u16_run(case.enhancement)
+    return bytes(out)
+
+
+def block_stream(bases, cases):
+    """stdin of block_vectors."""
+    out = bytearray([len(bases)])
+    for base in bases:
+        out += struct.pack(">H", len(base)) + base
+    for case in cases:
+        out += struct.pack(">BHHB", case.base, case.start, case.stop, len(case.edits))
+        for offset, byte in case.edits:
+            out += struct.pack(">HB", offset, byte)
+    return bytes(out)
+
+
+def text(lines):
+    return "".join(line + "\n" for line in lines).encode("ascii")
+
+
+def make():
+    """({path: bytes}, summary lines).  The answers are worked out from stdin."""
+    samples = sample_cases.all_cases()
+    sample_stdin = sample_stream(samples)
+    sample_lines = answers.sample_answers(sample_stdin)
+    bases, reads = block_cases.all_cases()
+    block_stdin = block_stream(bases, reads)
+    block_lines = answers.block_answers(block_stdin)
+    files = {
+        os.path.join("sample_vectors", "stdin"): sample_stdin,
+        os.path.join("sample_vectors", "stdout"): text(sample_lines),
+        os.path.join("block_vectors", "stdin"): block_stdin,
+        os.path.join("block_vectors", "stdout"): text(block_lines)}
+    summary = (sample_summary(samples, sample_lines)
+               + table("block_vectors", reads, block_lines))
+    return files, summary
+
+
+def sample_summary(cases, lines):
+    composed = Counter()
+    for case, line in zip(cases, lines):
+        if not line.startswith("refused"):
+            row_pair = sum(1 for _ in composer.row_pair_samples(case.plan, 0))
+            group = "random plans" if case.kind == "random plan" else "edge cases"
+            composed[group] += case.count * row_pair
+    return table("sample_vectors", cases, lines) + [
+        "  composed samples: %d from random plans, %d from edge cases"
+        % (composed["random plans"], composed["edge cases"])]
+
+
+def answer_of(line):
+    return line if line.startswith("refused") else "accepted"
+
+
+def table(title, cases, lines):
+    """Counts by answer, then by kind of case."""
+    out = ["%s: %d cases" % (title, len(cases))]
+    out.append("  " + counts(answer_of(line) for line in lines))
+    kinds = {}
+    for case, line in zip(cases, lines):
+        kinds.setdefault(case.kind, []).append(answer_of(line))
+    for kind, given in kinds.items():
+        out.append("  %5d %s (%s)" % (len(given), kind, counts(given)))
+    return out
+
+
+def counts(given):
+    found = Counter(given)
+    order = sorted(found, key=lambda name: (len(name), name))
+    return ", ".join("%s: %d" % (name, found[name]) for name in order)
+
+
+def write(outdir):
+    files, summary = make()
+    for path, data in files.items():
+        path = os.path.join(outdir, path)
+        os.makedirs(os.path.dirname(path), exist_ok=True)
+        with open(path, "wb") as file:
+            file.write(data)
+    print("\n".join(summary))
+
+
+def check(outdir):
+    """A message for the first stored file that is not as made, else None."""
+    files, _ = make()
+    for path, data in files.items():
+        path = os.path.join(outdir, path)
+        if not os.path.isfile(path):
+            return "%s is missing" % path
+        with open(path, "rb") as file:
+            if file.read() != data:
+                return "%s differs from what the second program gives" % path
+    return None
+
+
+def main():
+    arguments = sys.argv[1:]
+    if len(arguments) == 2 and arguments[0] == "--check":
+        fault = check(arguments[1])
+        if fault is not None:
+            print("make_vectors: " + fault)
+            sys.exit(1)
+        print("make_vectors: the four stored files are as the second program gives them")
+    elif len(arguments) == 1 and not arguments[0].startswith("-"):
+        write(arguments[0])
+    else:
+        sys.exit("usage: make_vectors.py [--check] OUTDIR")
+
+
+if __name__ == "__main__":
+    main()

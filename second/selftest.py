@@ -1,0 +1,289 @@
+"""Checks the second program against document 01's examples and hand work."""
+
+import copy
+import struct
+
+import answers
+import block
+import block_cases
+import jobs
+from composer import (Plan, assign_pivot_values, compose_row_pairs, derive_pivot_idx,
+                      inverse_quantization, map_sample, reconstruct)
+
+
+def set_section(plan, cmp, pivots, pieces):
+    """Pivots are running sums; a piece is its list of 2 or 3 numbers."""
+    plan.num_pivots_minus2[cmp] = len(pivots) - 2
+    for i, pivot in enumerate(pivots):
+        plan.pred_pivot_value[cmp][i] = pivot - (pivots[i - 1] if i else 0)
+    for piece, coef in enumerate(pieces):
+        plan.poly_order_minus1[cmp][piece] = len(coef) - 2
+        plan.fp_poly_coef[cmp][piece][:len(coef)] = coef
+
+
+def small_plan(depth=10, d=15, pivots=(0, 1023), pieces=((0, 1 << 15),)):
+    """A valid plan for a 2 x 2 picture, the same in all three sections."""
+    plan = Plan(ccm_profile=1, coefficient_log2_denom=d,
+                BL_bit_depth_minus8=depth - 8, EL_bit_depth_minus8=depth - 8,
+                hdr_bit_depth_minus8=4, half_width=1, half_height=1,
+                max_display_mastering_luminance=1000)
+    for cmp in range(3):
+        set_section(plan, cmp, pivots, pieces)
+    return plan
+
+
+def mapped(s, **choices):
+    plan = small_plan(**choices)
+    pivot_value = assign_pivot_values(plan.pred_pivot_value, plan.num_pivots_minus2)
+    values = [map_sample(plan, pivot_value, cmp, s) for cmp in range(3)]
+    assert values[0] == values[1] == values[2]
+    return values[0]
+
+
+def test_examples():
+    """E1 to E14 of document 01; one is 1.0 at d = 15."""
+    one = 1 << 15
+    assert mapped(0) == 0                                               # E1
+    assert mapped(1) == 64                                              # E2
+    assert mapped(1023) == 65472                                        # E3
+    for s in range(1024):
+        assert mapped(s, pieces=[(63 * one, 0)]) == 65535               # E4
+        assert mapped(s, pieces=[(-64 * one, 0)]) == 0                  # E5
+    assert mapped(1023, pieces=[(0, -one)]) == 0                        # E6
+    assert mapped(512, pieces=[(0, 0, one)]) == 16384                   # E7
+    assert mapped(1, pieces=[(0, 0, one)]) == 0                         # E8
+    assert mapped(1, pieces=[(-one + 32767, one)]) == 62                # E9
+    assert mapped(50, pivots=(100, 200)) == 6400                        # E10
+    assert mapped(900, pivots=(100, 200)) == 12800                      # E11
+    two = dict(pivots=(0, 512, 1023), pieces=[(0, 0), (one // 2, 0)])
+    assert mapped(511, **two) == 0                                      # E12
+    assert mapped(512, **two) == 32768                                  # E13
+    assert mapped(255, depth=8, d=13, pivots=(0, 255),
+                  pieces=[(0, 1 << 13)]) == 65280                       # E14
+
+
+def test_piece_choice():
+    # Pivots 100, 100, 200: s = 50 is below pivot 1, so piece 0, although the
+    # clamped sample, 100, would have piece 1.
+    equal = dict(pivots=(100, 100, 200), pieces=[(1 << 14, 0), (0, 0)])
+    assert mapped(50, **equal) == 32768
+    assert mapped(100, **equal) == 0
+    # Clause 5.4.2.2 itself gives n + 1 at and above the last pivot.
+    assert derive_pivot_idx(200, 0, [0], [[100, 200]]) == 1
+    assert derive_pivot_idx(199, 0, [0], [[100, 200]]) == 0
+
+
+def residual(e, offset, R, S, T, EL_bit_depth, d):
+    return inverse_quantization(e, offset, R, S, T, EL_bit_depth, d)
+
+
+def test_residual_10():
+    """Clause 5.4.3.2 by hand at EL_bit_depth 10: TT = +-2T, RR = 2R, shift d-15."""
+    one = 1 << 15
+    # At the offset: r = 0, and the threshold is not added.
+    assert residual(512, 512, one, 100, 7, 10, 15) == 0
+    # One above: rr = 1, 2, 2 - 1 = 1; dq = 100; TT = 14; 114 <= 65,536; r = 114.
+    assert residual(513, 512, one, 100, 7, 10, 15) == 114
+    # One below: rr = -1, -2, -2 + 1 = -1; dq = -100; TT = -14; r = -114.
+    assert residual(511, 512, one, 100, 7, 10, 15) == -114
+    # Three above: rr = 3, 6, 5; dq = 500 + 14; r = 514.
+    assert residual(515, 512, one, 100, 7, 10, 15) == 514
+    # Upper limit: rr = 511, 1022, 1021; dq = 102,100 + 14 > 65,536; r = 65,536.
+    assert residual(1023, 512, one, 100, 7, 10, 15) == 65536
+    # Lower limit: rr = -512, -1024, -1023; dq = -102,314 < -65,536; r = -65,536.
+    assert residual(0, 512, one, 100, 7, 10, 15) == -65536
+    # Shift 1 (d = 16), one below: dq = -13; -13 / 2 = -6.5, down to -7.
+    assert residual(299, 300, 1 << 16, 13, 0, 10, 16) == -7
+    # The same one above: 13 / 2 = 6.5, down to 6.
+    assert residual(301, 300, 1 << 16, 13, 0, 10, 16) == 6
+    # Shift 3 (d = 18), two below: rr = -2, -4, -3; dq = -15; TT = -2; -17;
+    # -17 / 8 = -2.125, down to -3.
+    assert residual(8, 10, 1 << 18, 5, 1, 10, 18) == -3
+    # The limit is shifted too: d = 17, shift 2, R = 3, RR = 6: dq = 1,000 and
+    # -1,000 become 6 and -6; 6 / 4 down to 1, -6 / 4 = -1.5 down to -2.
+    assert residual(401, 400, 3, 1000, 0, 10, 17) == 1
+    assert residual(399, 400, 3, 1000, 0, 10, 17) == -2
+    # dq equal to RR stays: R = 57, RR = 114 = dq; and R = 56 cuts to 112.
+    assert residual(513, 512, 57, 100, 7, 10, 15) == 114
+    assert residual(513, 512, 56, 100, 7, 10, 15) == 112
+    # R = 0: every residual is 0.
+    assert residual(1023, 0, 0, 65535, 65535, 10, 15) == 0
+    # Largest R = 65,535: RR = 131,070 passes 17 bits and is not cut:
+    # rr = 1023, 2046, 2045; dq = 2,045 * 65,535 > RR; r = 131,070.
+    assert residual(1023, 0, 65535, 65535, 0, 10, 15) == 131070
+
+
+def test_residual_8():
+    """The same at EL_bit_depth 8: rr * 4, TT = +-8T, RR = 8R, shift d-13."""
+    # One above: rr = 1, 2, 1, 4; dq = 12; TT = 16; 28 <= 800; r = 28.
+    assert residual(129, 128, 100, 3, 2, 8, 13) == 28
+    # One below: rr = -1, -2, -1, -4; dq = -12; TT = -16; r = -28.
+    assert residual(127, 128, 100, 3, 2, 8, 13) == -28
+    # At the offset.
+    assert residual(128, 128, 100, 3, 2, 8, 13) == 0
+    # Upper limit: rr = 127, 254, 253, 1012; dq = 1,012 * 8,191 > 800; r = 800.
+    assert residual(255, 128, 100, 8191, 0, 8, 13) == 800
+    # Lower limit: rr = -128, ..., -255 * 4 = -1,020; r = -800.
+    assert residual(0, 128, 100, 8191, 0, 8, 13) == -800
+    # Shift 3 (d = 16), one below: dq = -4 * 3 = -12; -12 / 8 = -1.5, down to -2.
+    assert residual(127, 128, 1 << 16, 3, 0, 8, 16) == -2
+    # One above: 12 / 8 = 1.5, down to 1.
+    assert residual(129, 128, 1 << 16, 3, 0, 8, 16) == 1
+
+
+def test_reconstruction():
+    """Clause 5.4.3.3 by hand: 12 bits add 8 and drop 4, 10 bits add 32 and drop 6."""
+    assert reconstruct(65535, 0, 1, 12) == 4095    # 65,543 >> 4 is 4,096, cut
+    assert reconstruct(65535, 0, 1, 10) == 1023    # 65,567 >> 6 is 1,024, cut
+    assert reconstruct(7, 0, 0, 12) == 0           # 15 >> 4
+    assert reconstruct(8, 0, 0, 12) == 1           # 16 >> 4
+    assert reconstruct(31, 0, 0, 10) == 0          # 63 >> 6
+    assert reconstruct(32, 0, 0, 10) == 1          # 64 >> 6
+    assert reconstruct(0, -9, 0, 12) == 0          # -1 >> 4 is -1, raised to 0
+    assert reconstruct(100, -9, 1, 12) == 6        # flag 1: r ignored, 108 >> 4
+    assert reconstruct(100, -9, 0, 12) == 6        # 99 >> 4
+    assert reconstruct(100, -13, 0, 12) == 5       # 95 >> 4
+
+
+def largest_plan():
+    plan = small_plan()
+    for cmp in range(3):
+        set_section(plan, cmp, [60 * i for i in range(17)], [[1, 2, 3]] * 16)
+    return plan
+
+
+def test_block_sizes():
+    shortest = small_plan()
+    assert len(block.section_bytes(shortest, 0)) == 34
+    data = block.write(shortest)
+    assert len(data) == 138
+    assert struct.unpack(">6H", data[-12:]) == (126, 102, 68, 34, 1, 0)
+    assert block.read(data) == (0, shortest)
+    longest = largest_plan()
+    assert len(block.section_bytes(longest, 2)) == 324
+    data = block.write(longest)
+    assert len(data) == 1008
+    assert block.read(data) == (0, longest)
+    assert block.read(b"\xff" * 70000 + data) == (0, longest)
+    assert len(answers.places(longest)) == 11 + 3 * 107
+
+
+def edited(data, offset, *new):
+    """A copy of data with these bytes at offset."""
+    out = bytearray(data)
+    out[offset:offset + len(new)] = bytes(new)
+    return bytes(out)
+
+
+def number_of(data):
+    return block.read(data)[0]
+
+
+def test_block_refusals():
+    data = block.write(small_plan())
+    number, plan = block.read(edited(data, 8, 8, 0))
+    assert number == 0 and plan.width == 4096
+    assert block.read(edited(data, 8, 8, 1)) == (4, None)      # W = 4,098
+    assert number_of(bytes(12)) == 2
+    assert number_of(bytes(11)) == 1
+    assert number_of(edited(data, 126, 0, 10, 0xff, 0xf2)) == 2   # A 10, D0 65,522
+    assert number_of(data[1:]) == 1
+    assert number_of(edited(data, 135, 2)[1:]) == 2            # 2 before the rest of 1
+    assert number_of(edited(data, 24, 16)) == 5                # n = 16
+    assert number_of(edited(data, 24, 1)) == 3                 # n = 1: section too short
+    assert number_of(edited(data, 29, 1)) == 5                 # mapping_idc, section 0
+    assert number_of(edited(data, 24 + 34 + 5, 1)) == 6        # section 1
+    assert number_of(edited(data, 24 + 68 + 5, 1)) == 6        # section 2
+    assert number_of(edited(data, 24 + 68 + 5, 2)) == 5
+    assert number_of(edited(data, 31, 63)) == 0
+    assert number_of(edited(data, 31, 64)) == 5
+    assert number_of(edited(data, 31, 0xc0)) == 0              # -64
+    assert number_of(edited(data, 31, 0xbf)) == 5              # -65
+    assert number_of(edited(data, 32, 0, 0, 0x7f, 0xff)) == 0  # 2^15 - 1
+    assert number_of(edited(data, 32, 0, 0, 0x80, 0)) == 5     # 2^15
+
+
+def test_left_over_before_next_section():
+    header, *sections = split(block.write(small_plan()))
+    sections[0] += b"\0"
+    sections[1] = edited(sections[1], 0, 16)
+    assert number_of(block.assemble(header, sections)) == 3
+    sections[0] = sections[0][:-1]
+    assert number_of(block.assemble(header, sections)) == 5
+
+
+def split(data):
+    """Header and sections of a shortest block."""
+    return data[:24], data[24:58], data[58:92], data[92:126]
+
+
+def test_round_trip():
+    """Writing the plan of an accepted slice gives its last A + 12 bytes again."""
+    bases, cases = block_cases.all_cases()
+    accepted = 0
+    for case in cases:
+        data = bytearray(bases[case.base])
+        for offset, byte in case.edits:
+            data[offset] = byte
+        data = bytes(data[case.start:case.stop])
+        number, plan = block.read(data)
+        if number == 0:
+            accepted += 1
+            A = struct.unpack(">H", data[-12:-10])[0]
+            assert block.write(plan) == data[-(A + 12):]
+            assert not jobs.breaks_rule_7(plan)
+    assert accepted > 500
+
+
+def test_rule_7():
+    good = largest_plan()
+    assert not jobs.breaks_rule_7(good)
+    assert jobs.breaks_rule_7(Plan())
+
+    def broken(change):
+        plan = copy.deepcopy(small_plan())
+        change(plan)
+        return jobs.breaks_rule_7(plan)
+
+    assert not broken(lambda plan: None)
+    assert broken(lambda plan: plan.pred_pivot_value[1].__setitem__(2, 1))
+    assert broken(lambda plan: plan.fp_poly_coef[2][0].__setitem__(2, 1))
+    assert broken(lambda plan: plan.poly_order_minus1[0].__setitem__(1, 1))
+    assert broken(lambda plan: plan.fp_poly_coef[0][0].__setitem__(0, 64 << 15))
+    assert not broken(lambda plan: plan.fp_poly_coef[0][0].__setitem__(0, -64 << 15))
+    assert broken(lambda plan: plan.mapping_idc[1].__setitem__(0, 1))
+    assert broken(lambda plan: plan.nlq_offset.__setitem__(2, 1024))
+    assert broken(lambda plan: plan.fp_hdr_in_max.__setitem__(2, 2 << 15))
+
+
+def test_jobs():
+    plan = small_plan()
+    plan.half_height = 2                                       # 2 x 4: 12 samples
+    base, output = [1023] * 12, answers.untouched_output(12)
+    assert jobs.job(Plan(), 0, 0, [], [], [])[0] == 7
+    assert jobs.job(plan, 0, 0, base[1:], [], output)[0] == 9
+    assert jobs.job(plan, 0, 0, [1024] * 12, [], output)[0] == 10
+    assert jobs.job(plan, 65535, 1, base, [], output)[0] == 10
+    assert jobs.job(plan, 2, 1, base, [], output)[0] == 10
+    assert jobs.job(plan, 0, 1, [1024] * 12, [], output)[0] == 11
+    number, composed = jobs.job(plan, 1, 1, base, [], output)
+    # 65,472 + 8 >> 4 = 4,092; row pair 1 is luma 4..7, Cb 9, Cr 11.
+    assert number == 0
+    assert composed == [60000, 60001, 60002, 60003, 4092, 4092, 4092, 4092,
+                        60008, 4092, 60010, 4092]
+    plan.disable_residual_flag = 1
+    assert jobs.job(plan, 1, 1, base, [65535], output) == (0, composed)
+    assert compose_row_pairs(plan, 0, 0, base, [], output) == output
+
+
+def main():
+    tests = [(name, test) for name, test in sorted(globals().items())
+             if name.startswith("test_")]
+    for name, test in tests:
+        test()
+        print("ok", name)
+    print(len(tests), "passed")
+
+
+if __name__ == "__main__":
+    main()
