@@ -3,12 +3,12 @@ use mathlib.Core.Path.{_≡_, sym, _∙_}
 use mathlib.Core.List.{List}
 use Prim.Native.Nat.{ℕ, _≤_, _<_}
 use native.Mathlib.Nat.{le-of-lt}
-use lib.ListN.{length, drop, drop-of-length-le}
+use lib.ListN.{length, drop-of-length-le}
 use lib.Seq.{drop-cons}
 use Rattle.block.specs.declared.cursor.Cursor.{Cursor}
-use Rattle.block.specs.Fields.{Read, refused, got}
+use Rattle.block.specs.Fields.{got}
 use Rattle.block.specs.Sections.{ended}
-use Rattle.block.specs.Cursors.{from, Reads, Ended}
+use Rattle.block.specs.Cursors.{from, Ended}
 use Rattle.block.proofs.Following.{going, stuck}
 
 module _ (s : List ℕ) (c : Cursor) where

@@ -1,10 +1,10 @@
 -- A loop that reads the same n times and puts what it read into an array. Assumes nothing.
-use mathlib.Core.Path.{_≡_, refl, sym, ap, _∙_}
+use mathlib.Core.Path.{_≡_, refl, ap, _∙_}
 use mathlib.Core.List.{List, [], _∷_}
 use Prim.Native.Nat.{ℕ, zero, suc, _+_, _-_, _≤_, _<_}
 use native.Mathlib.Numerals.{add-one}
 use native.Mathlib.Omega.{arith}
-use lib.ListN.{length, drop, set, replicate}
+use lib.ListN.{length, set, replicate}
 use lib.Seq.{sets}
 use Rattle.block.specs.declared.cursor.Cursor.{Cursor}
 use Rattle.block.specs.Fields.{Read, refused, got, _then_, repeated, padded}

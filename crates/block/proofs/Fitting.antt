@@ -1,22 +1,20 @@
 -- A plan that reading accepts passes rule 7; a refused block gives the plan of zeros. Assumes nothing.
-use mathlib.Core.Path.{_≡_, refl, sym, ap, _∙_, subst}
+use mathlib.Core.Path.{_≡_, refl, sym, subst}
 use mathlib.Core.Bool.{Bool, true, false, cond, not, _&&_}
 use mathlib.Core.List.{List, [], _∷_}
-use Prim.Native.Nat.{ℕ, _+_, _*_, _-_, _^_, _<_}
+use Prim.Native.Nat.{ℕ, _+_, _-_, _<_}
 use native.Mathlib.Omega.{arith}
 use lib.Dec.{eqb, ltb}
-use lib.IntN.{ℤ, pos}
-use lib.ListN.{length, take, drop, getD}
-use borrow.Author.Tests.{not-false, eqb-false}
+use lib.IntN.{pos}
+use lib.ListN.{length, drop, getD}
+use borrow.Author.Tests.{not-false}
 use Rattle.plan.specs.declared.Header.{Header}
-use Rattle.plan.specs.declared.Piece.{Piece}
-use Rattle.plan.specs.declared.Nlq.{Nlq}
 use Rattle.plan.specs.declared.Component.{Component}
 use Rattle.plan.specs.Ranges.{header-fits, count-fits, pivot-fits, order-fits, offset-fits, fraction-fits, coefficient-fits, unsigned-fits}
-use Rattle.plan.specs.Rule7.{every, no-piece, is-zero, row-fits, piece-fits, piece-empty, pivots-fit, pieces-fit, nlq-fits, component-fits, fitting, no-plan}
+use Rattle.plan.specs.Rule7.{every, no-piece, is-zero, row-fits, piece-fits, piece-empty, pivots-fit, pieces-fit, nlq-fits, component-fits, fitting}
 use Rattle.plan.proofs.Truths.{both}
 use Rattle.block.specs.declared.Reading.{Reading}
-use Rattle.block.specs.Fields.{Read, refused, got, _then_, outside, field, repeated, padded}
+use Rattle.block.specs.Fields.{Read, refused, got, outside, field, repeated}
 use Rattle.block.specs.Sections.{integer-fits, coefficient, unsigned, wrong-idc, piece, nlq, ended, zero-piece, section}
 use Rattle.block.specs.Facts.{Sound}
 use Rattle.block.specs.Reading.{Trailer, part, trailer, trailer-fits, header, zeros-fit, refusal, met, sections, read}

@@ -1,13 +1,12 @@
 -- A list filled up to m places: the first ones pass one test, the others another. Assumes nothing.
-use mathlib.Core.Path.{_≡_, refl, sym, ap, _∙_}
+use mathlib.Core.Path.{_≡_, refl}
 use mathlib.Core.Bool.{Bool, true, _&&_, cond}
 use mathlib.Core.List.{List, [], _∷_}
 use Prim.Native.Nat.{ℕ, zero, suc, _<_}
-use native.Mathlib.Nat.{le-of-suc-le-suc, not-suc-le-zero, le-refl, le-of-lt, le-trans}
+use native.Mathlib.Nat.{le-of-suc-le-suc, not-suc-le-zero, le-refl, le-of-lt}
 use native.Mathlib.Omega.{arith}
 use lib.Dec.{ltb, leb·suc-suc, leb·zero, leb·suc-zero}
 use lib.ListN.{length, getD}
-use borrow.Author.Tests.{lt-ltb, le-ltb}
 use Rattle.plan.specs.Rule7.{every}
 use Rattle.block.specs.Fields.{padded}
 use Rattle.block.proofs.Accepting.{Each}

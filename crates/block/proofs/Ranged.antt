@@ -1,19 +1,17 @@
 -- An integer part and a fraction in their ranges make a number in its range. Assumes nothing.
-use mathlib.Core.Path.{_≡_, refl, sym, ap, _∙_, subst}
-use mathlib.Core.Bool.{Bool, true, false, cond, _&&_, _||_}
+use mathlib.Core.Path.{_≡_, refl}
+use mathlib.Core.Bool.{Bool, true, false, _&&_, _||_}
 use Prim.Native.Nat.{ℕ, zero, suc, _+_, _*_, _-_, _^_, _≤_, _<_}
-use native.Mathlib.Nat.{mul-le-mul-right, mul-le-mul-left}
+use native.Mathlib.Nat.{mul-le-mul-right}
 use native.Mathlib.Omega.{arith}
 use lib.Dec.{leb, ltb, leb·zero}
-use lib.IntN.{ℤ, pos, negsuc, negℤ, _+ℤ_, _-ℤ_, _*ℤ_}
-use lib.Pow.{pow-pos}
+use lib.IntN.{ℤ, pos, negℤ, _+ℤ_, _*ℤ_}
 use lib.Signed.{leZ, ltZ}
-use borrow.Author.Tests.{leb-true, ltb-true, ltb-false, lt-ltb, le-ltb, le-leb}
+use borrow.Author.Tests.{leb-true, ltb-true, lt-ltb, le-ltb, le-leb}
 use Rattle.standard.specs.Parameters.{fp}
 use Rattle.plan.specs.declared.Header.{Header}
 use Rattle.plan.specs.Ranges.{coefficient-fits, unsigned-fits, fraction-fits}
 use Rattle.block.specs.Sections.{signed, integer-fits}
-use Rattle.block.proofs.Places.{and}
 
 pub unsigned-in : (h : Header) (i f : ℕ) → leb i 1 ≡ true → fraction-fits h f ≡ true → unsigned-fits h (i * 2 ^ h .d + f) ≡ true
 unsigned-in h i f p q =

@@ -1,10 +1,12 @@
--- A reading leaves no more bytes than it was given: where a failure was met lies in the section. Assumes nothing.
+-- A reading leaves no more bytes than it was given, and a refusal has a number. Assumes nothing.
+use mathlib.Core.Path.{_≡_, refl}
 use mathlib.Core.Bool.{Bool, true, false, cond}
 use mathlib.Core.List.{List, [], _∷_}
 use Prim.Native.Nat.{ℕ, zero, suc, _+_, _≤_}
 use native.Mathlib.Omega.{arith}
 use lib.Dec.{ltb, eqb}
 use lib.ListN.{length, take, drop, length-drop}
+use borrow.Author.Tests.{eqb-false}
 use Rattle.plan.specs.declared.Header.{Header}
 use Rattle.plan.specs.declared.Component.{Component}
 use Rattle.plan.specs.Ranges.{count-fits, pivot-fits, order-fits, offset-fits, fraction-fits}
@@ -12,7 +14,7 @@ use Rattle.block.specs.Fields.{Read, refused, got, _then_, number, field
 use Rattle.block.specs.Sections.{integer-fits, coefficient, unsigned, wrong-idc, piece, nlq, ended, section}
 
 abbrev pub Within : {A : Type 0} → ℕ → Read A → Type 0
-Within n (refused k rest) = length rest ≤ n
+Within n (refused k rest) = (k ≡ 0 → ⊥) × (length rest ≤ n)
 Within n (got a rest) = length rest ≤ n
 
 -- a reading that leaves no more than n of at most n bytes
@@ -26,12 +28,12 @@ then-stays n (got a rest) next h f = f a rest h
 module _ (n : ℕ) where
   field-stays : (w : ℕ) (wrong : ℕ → ℕ) → Stays n (field w wrong)
   unfolding field
-  field-stays w wrong bytes h = go (ltb (length bytes) w) (eqb (wrong (number (take w bytes))) 0)
+  field-stays w wrong bytes h = go (ltb (length bytes) w) (eqb (wrong (number (take w bytes))) 0) refl
     where
-      go : (s t : Bool) → Within n (cond s (refused 3 bytes) (cond t (got (number (take w bytes)) (drop w bytes)) (refused (wrong (number (take w bytes))) bytes)))
-      go true t = h
-      go false true = omega (arith, length-drop w bytes)
-      go false false = h
+      go : (s t : Bool) → eqb (wrong (number (take w bytes))) 0 ≡ t → Within n (cond s (refused 3 bytes) (cond t (got (number (take w bytes)) (drop w bytes)) (refused (wrong (number (take w bytes))) bytes)))
+      go true t e = (λ z. omega arith, h)
+      go false true e = omega (arith, length-drop w bytes)
+      go false false e = (eqb-false _ 0 e, h)
 
   repeated-stays : {A : Type 0} (k : ℕ) (one : List ℕ → Read A) → Stays n one → Stays n (repeated k one)
   unfolding repeated
@@ -41,7 +43,7 @@ module _ (n : ℕ) where
   ended-stays : (c : Component) → Stays n (ended c)
   unfolding ended
   ended-stays c [] h = h
-  ended-stays c (x ∷ rest) h = h
+  ended-stays c (x ∷ rest) h = (λ z. omega arith, h)
 
   module _ (d : Header) where
     coefficient-stays : Stays n (coefficient d)

@@ -22,6 +22,10 @@ pub record Reads {A : Type 0} (s : List ℕ) (c : Cursor) (next : List ℕ → R
   pub is : from s c' (got a) ≡ from s c next
   pub inside : c' .at ≤ length s
 
+-- the cursor before a section's first field
+abbrev pub fresh : Cursor
+fresh = record { at = 0; failure = 0 }
+
 -- a field that failed by rule k, at cursor c
 abbrev pub failing : Cursor → ℕ → Field
 failing c k = record { value = 0; next = record { at = c .at; failure = k } }
@@ -41,7 +45,10 @@ below w limit = field w (outside (λ v. ltb v limit))
 abbrev pub at-most : ℕ → ℕ → List ℕ → Read ℕ
 at-most w top = field w (outside (λ v. leb v top))
 
--- a coefficient's integer part, and mapping_idc in section k
+-- a pivot value, a coefficient's integer part, and mapping_idc in section k
+abbrev pub pivot : Header → List ℕ → Read ℕ
+pivot h = field 2 (outside (pivot-fits h))
+
 abbrev pub integer : List ℕ → Read ℕ
 integer = field 1 (outside integer-fits)
 
@@ -52,14 +59,6 @@ method k = field 1 (wrong-idc k)
 abbrev pub filled : {A : Type 0} → ℕ → A → ℕ → (List ℕ → Read A) → List ℕ → Read (List A)
 filled m z n one bytes = repeated n one bytes then λ l rest. got (padded m z l) rest
 
--- a pivot value
-abbrev pub pivot : Header → List ℕ → Read ℕ
-pivot h = field 2 (outside (pivot-fits h))
-
 -- the end of a section, reached at cursor c: whatever was read, the cursor after it is c'
 pub record Ended (s : List ℕ) (c c' : Cursor) : Type 0 where
   pub reads : (a : Component) → Reads s c (ended a) a c'
-
--- the cursor before a section's first field
-abbrev pub fresh : Cursor
-fresh = record { at = 0; failure = 0 }

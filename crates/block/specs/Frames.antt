@@ -13,7 +13,7 @@ use Rattle.block.specs.Sections.{section}
 use Rattle.block.specs.declared.frame.Trailer as declared
 use Rattle.block.specs.Reading.{Trailer, part, header, zeros-fit, refusal, met, sections}
 
--- the code's trailer, under the names of document 01
+-- the code's trailer, under the names of the house rules
 abbrev pub meant : declared.Trailer → Trailer
 meant x = record { A = x .a; D0 = x .d0; D1 = x .d1; D2 = x .d2; version = x .version; last = x .last }
 

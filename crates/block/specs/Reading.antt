@@ -1,4 +1,4 @@
--- Reading a composing block: document 01's trailer, header and sections, its table of refusals and their order.
+-- Reading a composing block: the house rules' trailer, header and sections, its table of refusals and their order.
 use mathlib.Core.Bool.{Bool, cond, not, _&&_}
 use mathlib.Core.List.{List, [], _∷_}
 use Prim.Native.Nat.{ℕ, _+_, _-_}

@@ -1,4 +1,4 @@
--- A section of the composing block (document 01): pivots, pieces and the residual's numbers of one component.
+-- A section of the composing block (the house rules): pivots, pieces and the residual's numbers of one component.
 use mathlib.Core.Bool.{Bool, cond, _||_}
 use mathlib.Core.List.{List, [], _∷_}
 use Prim.Native.Nat.{ℕ, _+_, _*_, _^_}

@@ -71,6 +71,7 @@ pub(crate) fn raw(s: &[u8], c: Cursor, w: usize) -> Field
     }
 }
 
+// A field of w bytes below a limit. What is not below it was read, since a field after a failure is 0.
 pub(crate) fn below(s: &[u8], c: Cursor, w: usize, limit: u64) -> Field
     requires { ⌜ (c .at ≤ length (now s)) × ((w ≤ 4) × (0 < limit)) ⌝ }
     ensures { λ r. ⌜ Reads (now (s .entry)) c (below w limit) (r .value) (r .next) × (r .value < limit) ⌝ }
@@ -82,6 +83,7 @@ pub(crate) fn below(s: &[u8], c: Cursor, w: usize, limit: u64) -> Field
     failed(c, 5)
 }
 
+// A field of w bytes that is at most `top`.
 pub(crate) fn at_most(s: &[u8], c: Cursor, w: usize, top: u64) -> Field
     requires { ⌜ (c .at ≤ length (now s)) × (w ≤ 4) ⌝ }
     ensures { λ r. ⌜ Reads (now (s .entry)) c (at-most w top) (r .value) (r .next) × (r .value ≤ top) ⌝ }

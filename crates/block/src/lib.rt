@@ -18,7 +18,7 @@ ghost use Prim.Native.Nat.{_≤_};
 ghost use lib.ListN.{length};
 ghost use Rattle.plan.specs.Facts.{HeaderFacts};
 ghost use Rattle.block.specs.Reading.{refusal, sections, read};
-ghost use Rattle.block.specs.Facts.{Sound};
+ghost use Rattle.block.specs.Facts.{Sound, LastBytes};
 ghost use Rattle.block.specs.Frames.{meant, Placed, Met, body};
 
 // What reading comes to: 0 and the plan, or the refusal's number, the byte where the failure was met, and a plan of zeros.
@@ -28,6 +28,7 @@ pub struct Reading {
     pub plan: Plan,
 }
 
+// A refused block hands back nothing of what was read.
 fn refused(number: u8, place: usize) -> Reading
     ensures { λ r. ⌜ r ≡ refusal number place ⌝ }
 {
@@ -97,7 +98,7 @@ fn sections(bytes: &[u8], t: usize, x: Trailer, h: Header) -> Reading
     }
 }
 
-// The header, and then the sections.
+// The header, and then the sections, whose ranges are made of the header's numbers.
 fn body(bytes: &[u8], t: usize, x: Trailer) -> Reading
     requires { ⌜ Placed (length (now bytes)) t (meant x) ⌝ }
     ensures { λ r. ⌜ r ≡ body (now (bytes .entry)) t (meant x) ⌝ }
@@ -125,8 +126,14 @@ pub fn read(bytes: &[u8]) -> Reading
     if !trailer_fits(x) {
         return refused(2, t);
     }
+    // The rest of rule 1 comes after rule 2: only a trailer that passes is believed.
     if t < (x.a as usize) {
         return refused(1, 0);
     }
     body(bytes, t, x)
 }
+
+// Carries a fact of reading, so that the gate names it: bytes before the last A + 12 change nothing.
+pub fn last_bytes()
+    ensures { λ _. ⌜ LastBytes ⌝ }
+{}

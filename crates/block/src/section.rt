@@ -10,7 +10,6 @@ use plan::Component;
 use plan::Header;
 use plan::Nlq;
 use plan::Piece;
-ghost use mathlib.Core.Path.{_≡_};
 ghost use Prim.Native.Nat.{_+_, _≤_};
 ghost use lib.IntN.{pos};
 ghost use lib.ListN.{length};

@@ -2,3 +2,4 @@ pub mod Geometry
 pub mod Meaning
 pub mod Looking
 pub mod Accepting
+pub mod Determined

@@ -76,7 +76,7 @@ output-after g output =
     (painted (in-pairs (g .plan .header) (g .first) (g .first + g .count)) (composed-at (g .plan) (g .base) (g .enhancement)) output)
     output
 
--- the answer of a call, and document 01's number for it: 0 where the row pairs are written
+-- the answer of a call, and the house rules' number for it: 0 where the row pairs are written
 unfoldable pub answer : Given → ℕ → Composed
 answer g output-length = cond (eqb (refusal g output-length) 0) Written (Refused (refusal g output-length))
 

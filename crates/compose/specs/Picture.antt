@@ -1,4 +1,4 @@
--- A picture in memory (document 01): one run of samples, luma by rows, then Cb, then Cr; and its row pairs.
+-- A picture in memory (the house rules): one run of samples, luma by rows, then Cb, then Cr; and its row pairs.
 use mathlib.Core.Bool.{Bool, cond}
 use Prim.Native.Nat.{ℕ, _+_, _-_, _*_, _/_}
 use lib.Dec.{ltb}

@@ -71,7 +71,7 @@ job-answer j output marks =
     (Done (tally is-waiting (marks-after j output marks)))
     (Refused (job-refusal j (length output) (length marks)))
 
--- document 01's number and rows left for each case; complete is exactly rows left 0
+-- the house rules' number and rows left for each case; complete is exactly rows left 0
 abbrev pub answer-number : Answer → ℕ
 answer-number (Done left) = 0
 answer-number (Refused k) = k

@@ -21,7 +21,7 @@ opening-accepted p marks-length = eqb (opening-refusal p marks-length) 0
 unfoldable pub opening-answer : Plan → ℕ → ℕ → Opened
 opening-answer p ticket marks-length = cond (opening-accepted p marks-length) (Open ticket) (Refused (opening-refusal p marks-length))
 
--- document 01's number for each case
+-- the house rules' number for each case
 abbrev pub opened-number : Opened → ℕ
 opened-number (Open ticket) = 0
 opened-number (Refused k) = k

@@ -9,7 +9,6 @@ use Rattle.compose.specs.Picture.{pair-at}
 use Rattle.compose.specs.Composing.{composed-at}
 use Rattle.jobs.specs.Opening.{opening-accepted, opening-marks}
 use Rattle.jobs.specs.Jobs.{Job, accepted, names, output-after, marks-after, job-answer}
-use Rattle.jobs.specs.declared.Answer.{Answer}
 use Rattle.jobs.specs.declared.Answer.the-variants.{Done}
 
 -- the memory that jobs write, and what one job and then a sequence of jobs leaves in it
@@ -38,20 +37,20 @@ unfoldable pub count-below : (ℕ → Bool) → ℕ → ℕ
 count-below test zero = 0
 count-below test (suc n) = count-below test n + cond (test n) 1 0
 
--- the premises on one job: it is given the open ticket as the opening handed it back; and if it is accepted, the
--- opening's plan, the same base samples and, unless the flag disables it, the same enhancement samples
-pub record Keeps (p : Plan) (ticket : ℕ) (base enhancement : List ℕ) (a b : ℕ) (j : Job) : Type 0 where
-  pub same-ticket : j .open-ticket ≡ ticket
+-- the premises on one job: if it is accepted, it got the opening's plan, the same base samples and, unless the flag disables
+-- it, the same enhancement samples. (The demand also has every job given the open ticket as the opening handed it back;
+-- the theorem holds without that.)
+pub record Keeps (p : Plan) (base enhancement : List ℕ) (a b : ℕ) (j : Job) : Type 0 where
   pub same-plan : accepted j a b ≡ true → j .plan ≡ p
   pub same-base : accepted j a b ≡ true → j .base ≡ base
   pub same-enhancement : accepted j a b ≡ true → p .header .disabled ≡ 0 → j .enhancement ≡ enhancement
 
-pub data AllKeep (p : Plan) (ticket : ℕ) (base enhancement : List ℕ) (a b : ℕ) : List Job → Type 0 where
-  none : AllKeep p ticket base enhancement a b []
-  more : {j : Job} {js : List Job} → Keeps p ticket base enhancement a b j → AllKeep p ticket base enhancement a b js → AllKeep p ticket base enhancement a b (j ∷ js)
+pub data AllKeep (p : Plan) (base enhancement : List ℕ) (a b : ℕ) : List Job → Type 0 where
+  none : AllKeep p base enhancement a b []
+  more : {j : Job} {js : List Job} → Keeps p base enhancement a b j → AllKeep p base enhancement a b js → AllKeep p base enhancement a b (j ∷ js)
 
 -- what demand 3 says after the jobs js, and of one job more
-pub record StaysFinished (p : Plan) (ticket : ℕ) (base enhancement output marks : List ℕ) (js : List Job) : Type 0 where
+pub record StaysFinished (p : Plan) (base enhancement output marks : List ℕ) (js : List Job) : Type 0 where
   -- each row pair that some accepted job named holds what demand 2 says
   pub composed : (i : ℕ) → i < length output → named (length output) (length marks) js (pair-at (p .header) i) ≡ true → getD (run js (opened p output marks) .output) i 0 ≡ composed-at p base enhancement i
   -- every other row is as at the opening
@@ -59,14 +58,14 @@ pub record StaysFinished (p : Plan) (ticket : ℕ) (base enhancement output mark
   -- the output is as long as it was
   pub size : length (run js (opened p output marks) .output) ≡ length output
   -- the next job, if it is accepted, answers the count of row pairs that no accepted job so far, itself included, has named
-  pub rows-left : (j : Job) → Keeps p ticket base enhancement (length output) (length marks) j → accepted j (length output) (length marks) ≡ true →
+  pub rows-left : (j : Job) → Keeps p base enhancement (length output) (length marks) j → accepted j (length output) (length marks) ≡ true →
       job-answer j (run js (opened p output marks) .output) (run js (opened p output marks) .marks)
       ≡ Done (count-below (λ k. not (named (length output) (length marks) (js ++ (j ∷ [])) k)) (p .header .pairs))
 
--- demand 3, of every plan, ticket, picture, memory and sequence of jobs
+-- demand 3, of every plan, picture, memory and sequence of jobs
 abbrev pub StandbyNight : Type 0
 StandbyNight =
-    (p : Plan) (ticket : ℕ) (base enhancement output marks : List ℕ) (js : List Job) →
+    (p : Plan) (base enhancement output marks : List ℕ) (js : List Job) →
     opening-accepted p (length marks) ≡ true →
-    AllKeep p ticket base enhancement (length output) (length marks) js →
-    StaysFinished p ticket base enhancement output marks js
+    AllKeep p base enhancement (length output) (length marks) js →
+    StaysFinished p base enhancement output marks js

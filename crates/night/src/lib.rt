@@ -1,1 +1,13 @@
-// The theorem of the standby night stands in specs/Night.antt.
+// Theorems on the calls of a night. Each function computes nothing: its promise is the theorem.
+ghost use Rattle.night.specs.Night.{StandbyNight};
+ghost use Rattle.night.specs.FourRows.{FourRows};
+
+// Demand 3, of every plan, picture, memory and sequence of jobs after an accepted opening.
+pub fn the_standby_night()
+    ensures { λ _. ⌜ StandbyNight ⌝ }
+{}
+
+// The house rules' case of a picture with H = 4.
+pub fn four_rows()
+    ensures { λ _. ⌜ FourRows ⌝ }
+{}

@@ -1,4 +1,4 @@
--- The ranges of document 01's tables, one definition a field, for the reader's rules 4 and 5 and for rule 7 alike.
+-- The ranges of the house rules' tables, one definition a field, for the reader's rules 4 and 5 and for rule 7 alike.
 use mathlib.Core.Bool.{Bool, true, _&&_, _||_}
 use mathlib.Core.List.{List, [], _∷_}
 use Prim.Native.Nat.{ℕ, _+_, _*_, _^_}

@@ -1,4 +1,4 @@
-// The ranges of document 01's tables. No test here leans on another, so all are made, and `&` joins them.
+// The ranges of the house rules' tables. No test here leans on another, so all are made, and `&` joins them.
 use crate::Header;
 use crate::Nlq;
 ghost use mathlib.Core.Path.{_≡_};

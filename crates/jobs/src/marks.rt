@@ -1,0 +1,45 @@
+// The marks of a picture, a byte for each row pair: 0 waits, any other value is done.
+ghost use mathlib.Core.Path.{_≡_};
+ghost use Prim.Native.Nat.{_≤_};
+ghost use lib.ListN.{length};
+ghost use Rattle.runs.specs.Runs.{painted, between, tally};
+ghost use Rattle.jobs.specs.Jobs.{done, is-waiting};
+ghost use Rattle.jobs.specs.Opening.{every-pair, waiting};
+
+pub(crate) fn clear(marks: &mut [u8])
+    ensures { λ _. ⌜ now (marks .exit) ≡ painted every-pair waiting (now (marks .entry)) ⌝ }
+{
+    let mut k = 0;
+    while k < marks.len() {
+        marks[k] = 0;
+        k += 1;
+    }
+}
+
+// Marks the row pairs from `from` up to, but not including, `to`.
+pub(crate) fn mark(from: usize, to: usize, marks: &mut [u8])
+    requires { ⌜ from ≤ to ⌝ }
+    requires { ⌜ to ≤ length (now marks) ⌝ }
+    ensures { λ _. ⌜ now (marks .exit) ≡ painted (between from to) done (now (marks .entry)) ⌝ }
+{
+    let mut k = from;
+    while k < to {
+        marks[k] = 1;
+        k += 1;
+    }
+}
+
+// How many row pairs wait.
+pub(crate) fn waiting(marks: &[u8]) -> usize
+    ensures { λ r. ⌜ r ≡ tally is-waiting (now (marks .entry)) ⌝ }
+{
+    let mut left: usize = 0;
+    let mut k = 0;
+    while k < marks.len() {
+        if marks[k] == 0 {
+            left += 1;
+        }
+        k += 1;
+    }
+    left
+}

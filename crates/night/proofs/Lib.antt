@@ -1,0 +1,4 @@
+pub mod Counting
+pub mod Night
+pub mod Calls
+pub mod FourRows

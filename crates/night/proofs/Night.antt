@@ -1,0 +1,139 @@
+-- Demand 3 holds of every sequence of jobs after an accepted opening. Assumes nothing.
+use mathlib.Core.Path.{_≡_, refl, sym, ap, ap₂, _∙_}
+use mathlib.Core.Bool.{Bool, true, false, not, _&&_, _||_, cond, or-assoc, or-false}
+use mathlib.Core.List.{List, [], _∷_, _++_}
+use Prim.Native.Nat.{ℕ, _<_}
+use native.Mathlib.Omega.{arith}
+use lib.Dec.{eqb}
+use lib.ListN.{length, getD}
+use borrow.Author.Tests.{eqb-true}
+use Rattle.runs.specs.Runs.{painted, tally}
+use Rattle.runs.proofs.Painting.{length-painted, at-painted, painted-over, painted-none, painted-cong}
+use Rattle.plan.specs.declared.Plan.{Plan}
+use Rattle.plan.specs.Rule7.{fitting}
+use Rattle.plan.specs.Refusals.{rule, first-met}
+use Rattle.compose.specs.Picture.{pair-at}
+use Rattle.compose.specs.Composing.{composed-at}
+use Rattle.jobs.specs.Opening.{every-pair, waiting, opening-refusal, opening-accepted, opening-marks}
+use Rattle.jobs.specs.Jobs.{Job, accepted, names, sample, done, is-waiting, output-after, marks-after, job-answer}
+use Rattle.jobs.specs.declared.Answer.the-variants.{Done}
+use Rattle.jobs.proofs.Sampling.{same-sample}
+use Rattle.night.specs.Night.{Memory, step, run, opened, named, count-below, Keeps, AllKeep, none, more, StandbyNight}
+use Rattle.night.proofs.Counting.{count-cong, left-waiting}
+
+-- an accepted opening found a mark for each row pair, and cleared them all
+marked : (fits : Bool) (n k : ℕ) → first-met (rule 7 (not fits) ∷ rule 9 (not (eqb n k)) ∷ []) ≡ 0 → n ≡ k
+marked fits n k h = go fits (eqb n k) refl h
+  where
+    go : (f b : Bool) → eqb n k ≡ b → first-met (rule 7 (not f) ∷ rule 9 (not b) ∷ []) ≡ 0 → n ≡ k
+    go false b e q = absurd (omega arith)
+    go true false e q = absurd (omega arith)
+    go true true e q = eqb-true n k e
+
+pub opening-marked : (p : Plan) (n : ℕ) → opening-accepted p n ≡ true → n ≡ p .header .pairs
+unfolding opening-accepted opening-refusal
+opening-marked p n h = marked (fitting p) n (p .header .pairs) (eqb-true _ 0 h)
+
+cleared : (p : Plan) (marks : List ℕ) → opening-accepted p (length marks) ≡ true → opening-marks p marks ≡ painted every-pair waiting marks
+unfolding opening-marks
+cleared p marks h = rw h
+
+module _ (p : Plan) (base enhancement : List ℕ) (a b : ℕ) where
+  -- ---- one job
+  output-step : (j : Job) (m : Memory) → Keeps p base enhancement a b j → length (m .output) ≡ a → length (m .marks) ≡ b → step j m .output ≡ painted (λ i. accepted j a b && names j (pair-at (p .header) i)) (composed-at p base enhancement) (m .output)
+  unfolding output-after
+  output-step j m k e f = rw (e, f) (go (accepted j a b) refl)
+    where
+      go : (u : Bool) → accepted j a b ≡ u → cond u (painted (λ i. names j (pair-at (j .plan .header) i)) (sample j) (m .output)) (m .output) ≡ painted (λ i. u && names j (pair-at (p .header) i)) (composed-at p base enhancement) (m .output)
+      go true h =
+          ap₂ (λ (q : Plan) (s : List ℕ). painted (λ i. names j (pair-at (q .header) i)) (composed-at q s (j .enhancement)) (m .output)) (k .same-plan h) (k .same-base h)
+          ∙ painted-cong _ _ _ _ (m .output) (λ i l. refl) (λ i l t. same-sample p base (j .enhancement) enhancement i (k .same-enhancement h))
+      go false h = sym (painted-none _ _ _ (λ i l. refl))
+
+  marks-step : (j : Job) (m : Memory) → length (m .output) ≡ a → length (m .marks) ≡ b → step j m .marks ≡ painted (λ k. accepted j a b && names j k) done (m .marks)
+  unfolding marks-after
+  marks-step j m e f = rw (e, f) (go (accepted j a b))
+    where
+      go : (u : Bool) → cond u (painted (names j) done (m .marks)) (m .marks) ≡ painted (λ k. u && names j k) done (m .marks)
+      go true = refl
+      go false = sym (painted-none _ _ _ (λ i l. refl))
+
+  output-length : (j : Job) (m : Memory) → Keeps p base enhancement a b j → length (m .output) ≡ a → length (m .marks) ≡ b → length (step j m .output) ≡ a
+  output-length j m k e f = ap length (output-step j m k e f) ∙ length-painted _ _ _ ∙ e
+
+  marks-length : (j : Job) (m : Memory) → length (m .output) ≡ a → length (m .marks) ≡ b → length (step j m .marks) ≡ b
+  marks-length j m e f = ap length (marks-step j m e f) ∙ length-painted _ _ _ ∙ f
+
+  -- ---- any number of jobs: painting over a painting selects what either does
+  run-output : (js : List Job) (m : Memory) → AllKeep p base enhancement a b js → length (m .output) ≡ a → length (m .marks) ≡ b → run js m .output ≡ painted (λ i. named a b js (pair-at (p .header) i)) (composed-at p base enhancement) (m .output)
+  unfolding run named
+  run-output [] m none e f = sym (painted-none _ _ _ (λ i l. refl))
+  run-output (j ∷ js) m (more k ks) e f =
+      run-output js (step j m) ks (output-length j m k e f) (marks-length j m e f)
+      ∙ ap (painted _ _) (output-step j m k e f)
+      ∙ painted-over _ _ _ _
+
+  run-marks : (js : List Job) (m : Memory) → AllKeep p base enhancement a b js → length (m .output) ≡ a → length (m .marks) ≡ b → run js m .marks ≡ painted (named a b js) done (m .marks)
+  unfolding run named
+  run-marks [] m none e f = sym (painted-none _ _ _ (λ i l. refl))
+  run-marks (j ∷ js) m (more k ks) e f =
+      run-marks js (step j m) ks (output-length j m k e f) (marks-length j m e f)
+      ∙ ap (painted _ _) (marks-step j m e f)
+      ∙ painted-over _ _ _ _
+
+-- ---- one job more at the end
+named-last : (a b : ℕ) (js : List Job) (j : Job) (k : ℕ) → named a b (js ++ (j ∷ [])) k ≡ (named a b js k || (accepted j a b && names j k))
+unfolding named
+named-last a b [] j k = or-false _
+named-last a b (i ∷ js) j k =
+    ap (λ (u : Bool). (accepted i a b && names i k) || u) (named-last a b js j k)
+    ∙ sym (or-assoc (accepted i a b && names i k) (named a b js k) (accepted j a b && names j k))
+
+answer-done : (j : Job) (m : Memory) (a b : ℕ) → length (m .output) ≡ a → length (m .marks) ≡ b → accepted j a b ≡ true → job-answer j (m .output) (m .marks) ≡ Done (tally is-waiting (step j m .marks))
+unfolding job-answer
+answer-done j m a b e f h = let t : accepted j (length (m .output)) (length (m .marks)) ≡ true = ap₂ (accepted j) e f ∙ h in rw t
+
+pub standby-night : StandbyNight
+standby-night p base enhancement output marks js fits ks =
+    record {
+      composed = λ i l h. at i l ∙ ap (λ (u : Bool). cond u (composed-at p base enhancement i) (getD output i 0)) h;
+      others = λ i l h. at i l ∙ ap (λ (u : Bool). cond u (composed-at p base enhancement i) (getD output i 0)) h;
+      size = output-size;
+      rows-left = λ j k h.
+          answer-done j end a b output-size marks-size h
+          ∙ ap (λ (l : List ℕ). Done (tally is-waiting l)) (marks-step p base enhancement a b j end output-size marks-size ∙ ap (painted _ done) marks-are ∙ painted-over _ _ done _)
+          ∙ ap Done
+          (left-waiting _ marks
+          ∙ ap (count-below _) (opening-marked p b fits)
+          ∙ count-cong _ _ (p .header .pairs) (λ i l. ap not (sym (named-last a b js j i))));
+    }
+  where
+    a : ℕ
+    a = length output
+
+    b : ℕ
+    b = length marks
+
+    begin : Memory
+    begin = opened p output marks
+
+    end : Memory
+    end = run js begin
+
+    begin-marks : length (begin .marks) ≡ b
+    begin-marks = ap length (cleared p marks fits) ∙ length-painted _ _ marks
+
+    output-is : end .output ≡ painted (λ i. named a b js (pair-at (p .header) i)) (composed-at p base enhancement) output
+    output-is = run-output p base enhancement a b js begin ks refl begin-marks
+
+    output-size : length (end .output) ≡ a
+    output-size = ap length output-is ∙ length-painted _ _ output
+
+    marks-are : end .marks ≡ painted (named a b js) done (painted every-pair waiting marks)
+    marks-are = run-marks p base enhancement a b js begin ks refl begin-marks ∙ ap (painted _ done) (cleared p marks fits)
+
+    marks-size : length (end .marks) ≡ b
+    marks-size = ap length marks-are ∙ length-painted _ _ (painted every-pair waiting marks) ∙ length-painted _ _ marks
+
+    at : (i : ℕ) → i < a → getD (end .output) i 0 ≡ cond (named a b js (pair-at (p .header) i)) (composed-at p base enhancement i) (getD output i 0)
+    at i l = ap (λ (r : List ℕ). getD r i 0) output-is ∙ at-painted _ _ output i 0 l

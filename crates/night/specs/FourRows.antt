@@ -1,0 +1,68 @@
+-- The house rules' case of a picture with H = 4: the jobs (0, 1), (0, 1), (1, 1) leave 1, 1 and 0 row pairs, and (2, 1) is refused 10.
+use mathlib.Core.Path.{_≡_}
+use mathlib.Core.List.{List, [], _∷_}
+use Prim.Native.Nat.{ℕ}
+use lib.IntN.{pos}
+use lib.ListN.{replicate}
+use Rattle.plan.specs.declared.Header.{Header}
+use Rattle.plan.specs.declared.Piece.{Piece}
+use Rattle.plan.specs.declared.Component.{Component}
+use Rattle.plan.specs.declared.Plan.{Plan}
+use Rattle.jobs.specs.Jobs.{Job, job, job-answer}
+use Rattle.jobs.specs.declared.Answer.{Answer}
+use Rattle.jobs.specs.declared.Answer.the-variants.{Done, Refused}
+use Rattle.night.specs.Night.{Memory, step, opened}
+
+-- W = 2 and H = 4, depth 10 to 12, every component linear, no residual
+abbrev four-rows-header : Header
+four-rows-header = record { profile = 1; level = 0; d = 15; bl = 2; el = 2; hdr = 4; disabled = 1; columns = 1; pairs = 2; brightest = 1000; darkest = 1 }
+
+abbrev empty-piece : Piece
+empty-piece = record { idc = 0; order = 0; row = replicate 3 (pos 0) }
+
+abbrev linear-piece : Piece
+linear-piece = record { idc = 0; order = 0; row = pos 0 ∷ pos 32768 ∷ pos 0 ∷ [] }
+
+abbrev linear : Component
+linear =
+    record {
+      n = 0;
+      preds = 0 ∷ 1023 ∷ replicate 15 0;
+      pieces = linear-piece ∷ replicate 16 empty-piece;
+      nlq = record { offset = 0; maximum = 0; slope = 0; threshold = 0 };
+    }
+
+abbrev four-rows : Plan
+four-rows = record { header = four-rows-header; y = linear; cb = linear; cr = linear }
+
+abbrev base : List ℕ
+base = 1 ∷ 2 ∷ 3 ∷ 4 ∷ 5 ∷ 6 ∷ 7 ∷ 8 ∷ 9 ∷ 10 ∷ 11 ∷ 1023 ∷ []
+
+-- a job of the picture that is open under ticket 5
+abbrev sent : ℕ → ℕ → Job
+sent first count = job four-rows 5 5 first count base []
+
+-- the memory at the opening, from any old marks, and after each job
+abbrev memory-0 : Memory
+memory-0 = opened four-rows (replicate 12 77) (1 ∷ 200 ∷ [])
+
+abbrev memory-1 : Memory
+memory-1 = step (sent 0 1) memory-0
+
+abbrev memory-2 : Memory
+memory-2 = step (sent 0 1) memory-1
+
+abbrev memory-3 : Memory
+memory-3 = step (sent 1 1) memory-2
+
+abbrev answered : Job → Memory → Answer
+answered j m = job-answer j (m .output) (m .marks)
+
+pub record FourRows : Type 0 where
+  pub first : answered (sent 0 1) memory-0 ≡ Done 1
+  pub again : answered (sent 0 1) memory-1 ≡ Done 1
+  pub second : answered (sent 1 1) memory-2 ≡ Done 0
+  pub past : answered (sent 2 1) memory-3 ≡ Refused 10
+  -- after the first job its rows are composed, and the others are old; at the end all are composed
+  pub torn : memory-1 .output ≡ 4 ∷ 8 ∷ 12 ∷ 16 ∷ 77 ∷ 77 ∷ 77 ∷ 77 ∷ 36 ∷ 77 ∷ 44 ∷ 77 ∷ []
+  pub whole : memory-3 .output ≡ 4 ∷ 8 ∷ 12 ∷ 16 ∷ 20 ∷ 24 ∷ 28 ∷ 32 ∷ 36 ∷ 40 ∷ 44 ∷ 4092 ∷ []
