@@ -1,7 +1,8 @@
-"""Answers the two vector streams; README.md gives their formats.
+"""Answers the three vector streams; README.md gives their formats.
 
     python3 answers.py sample_vectors < stdin > stdout
     python3 answers.py block_vectors < stdin > stdout
+    python3 answers.py night_vectors < stdin > stdout
 """
 
 import struct
@@ -9,7 +10,10 @@ import sys
 
 import block
 import jobs
-from composer import PIECE_PLACES
+import nights
+from composer import PIECE_PLACES, Plan
+
+NO_RUN = 255        # the place of an enhancement run that is not present
 
 
 class Stream:
@@ -35,6 +39,9 @@ class Stream:
     def u16(self):
         return struct.unpack(">H", self.bytes(2))[0]
 
+    def u32(self):
+        return struct.unpack(">I", self.bytes(4))[0]
+
     def samples(self):
         size = self.u16()
         return list(struct.unpack(">%dH" % size, self.bytes(2 * size)))
@@ -54,17 +61,26 @@ def sample_answers(data):
     return lines
 
 
-def _sample_answer(stream):
+def _valid_plan(stream):
     number, plan = block.read(stream.bytes(stream.u16()))
     if number != 0:
         raise ValueError("a composing case has to bring a valid block")
+    return plan
+
+
+def _sample_answer(stream):
+    plan = _valid_plan(stream)
     first, count = stream.u16(), stream.u16()
     base, enhancement = stream.samples(), stream.samples()
     output = untouched_output(plan.picture_samples)
     number, composed = jobs.job(plan, first, count, base, enhancement, output)
     if number != 0:
         return "refused %d" % number
-    return " ".join(str(sample) for sample in composed)
+    return decimal(composed)
+
+
+def decimal(values):
+    return " ".join(str(value) for value in values)
 
 
 def block_answers(data):
@@ -112,10 +128,47 @@ def places(plan):
     return out
 
 
+def night_answers(data):
+    """The lines of all nights: opening, jobs, output run, marks."""
+    stream = Stream(data)
+    lines = []
+    while stream.more():
+        lines += _night_answer(stream)
+    return lines
+
+
+def _night_answer(stream):
+    plans = [_valid_plan(stream), Plan()]
+    runs = [stream.samples() for _ in range(stream.u8())]
+    marks = bytearray(stream.bytes(stream.u16()))
+    output = untouched_output(stream.u16())
+    ticket = stream.u32()
+    number, opened = nights.open_picture(plans[stream.u8()], ticket, marks)
+    lines = ["refused %d" % number if number != 0 else "open %d" % opened]
+    for _ in range(stream.u16()):
+        plan = plans[stream.u8()]
+        open_ticket, ticket = stream.u32(), stream.u32()
+        first, count = stream.u16(), stream.u16()
+        base, enhancement = runs[stream.u8()], _enhancement(runs, stream.u8())
+        number, left = nights.row_job(plan, open_ticket, ticket, first, count, base,
+                                      enhancement, output, marks)
+        lines.append("refused %d" % number if number != 0 else _done(left))
+    return lines + [decimal(output), decimal(marks)]
+
+
+def _enhancement(runs, place):
+    return [] if place == NO_RUN else runs[place]
+
+
+def _done(left):
+    return "complete" if left == 0 else "left %d" % left
+
+
 def main():
-    answers = {"sample_vectors": sample_answers, "block_vectors": block_answers}
+    answers = {"sample_vectors": sample_answers, "block_vectors": block_answers,
+               "night_vectors": night_answers}
     if len(sys.argv) != 2 or sys.argv[1] not in answers:
-        sys.exit("usage: answers.py sample_vectors|block_vectors < stdin")
+        sys.exit("usage: answers.py sample_vectors|block_vectors|night_vectors < stdin")
     for line in answers[sys.argv[1]](sys.stdin.buffer.read()):
         print(line)
 

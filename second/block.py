@@ -1,6 +1,6 @@
-"""The composing block of document 01: reading it and writing it (version 1).
+"""The composing block of the house rules: reading it and writing it (version 1).
 
-Order of the answers (document 01, "Reading"): under 12 bytes 1, then 2, then
+Order of the answers (the house rules, "Reading"): under 12 bytes 1, then 2, then
 the rest of 1, then 4, then the sections from first byte to last, each field
 for 3 and then for 5 or 6, and each section's left-over bytes (3) at its end.
 """
@@ -16,7 +16,7 @@ LISTED_LEVELS = (0,)            # GS CCM 001, table A.1
 
 
 class Refusal(Exception):
-    """Carries the refusal number of document 01."""
+    """Carries the refusal number of the house rules."""
 
     def __init__(self, number):
         super().__init__(number)
@@ -48,7 +48,7 @@ def _read_block(data):
 
 
 def _read_header(header):
-    """Document 01, table of the header; every fault is 4."""
+    """House rules, table of the header; every fault is 4."""
     (profile, level, d, bl, el, hdr, flag, zero7, half_width, half_height,
      lum_max, zero14, lum_min, zero20) = struct.unpack(">8B4HII", header)
     plan = Plan(
@@ -64,7 +64,7 @@ def _read_header(header):
 
 
 def header_in_range(plan):
-    """Document 01, column "Allowed" of the header, on the plan's fields."""
+    """House rules, column "Allowed" of the header, on the plan's fields."""
     return (plan.ccm_profile in LISTED_PROFILES
             and plan.ccm_level in LISTED_LEVELS
             and plan.BL_bit_depth_minus8 in (0, 2)
@@ -121,7 +121,7 @@ def _take_mapping_idc(fields, cmp):
 
 
 def _read_section(plan, cmp, section):
-    """Document 01, "Section, in order"."""
+    """House rules, "Section, in order"."""
     d = plan.coefficient_log2_denom
     fields = _Fields(section)
     n = _in_range(fields.take(1), 0, 15)

@@ -1,4 +1,4 @@
-"""Reading cases for block_vectors: edges of document 01's block, then damage.
+"""Reading cases for block_vectors: edges of the house rules' block, then damage.
 
 A case is a base block, some byte edits, and the slice of it that is read.
 """

@@ -5,7 +5,7 @@ line by line.  Python integers have no size, so no sum can overflow, and >>
 rounds down, as clause 3.2.2 defines it.  Clause 3.2.6 ("from left to right")
 is read as usual precedence: * before + and -, and these before shifts.
 
-Lines marked "house" follow document 01 where it decides for itself.
+Lines marked "house" follow the house rules where they decide for themselves.
 """
 
 from dataclasses import dataclass, field
@@ -187,7 +187,7 @@ def residual(plan, cmp, e):
 
 
 def row_pair_samples(plan, k):
-    """Document 01, picture memory: (cmp, index) of every sample of row pair k."""
+    """House rules, picture memory: (cmp, index) of every sample of row pair k."""
     W, H = plan.width, plan.height
     for y in (2 * k, 2 * k + 1):
         for x in range(W):

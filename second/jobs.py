@@ -1,4 +1,4 @@
-"""Jobs of document 01 without tickets and marks: rules 7, 9, 10 and 11."""
+"""Rules 7 to 11 of the house rules, and a job without tickets and marks."""
 
 from composer import (COEF_PLACES, PIECE_PLACES, PIVOT_PLACES, compose_row_pairs,
                       enhancement_used, row_pair_samples)
@@ -6,18 +6,24 @@ from block import header_in_range
 
 
 def job(plan, first, count, base, enhancement, output):
-    """Give (0, the new output run), or (7, 9, 10 or 11, None)."""
-    number = refusal(plan, first, count, base, enhancement, output)
+    """A job with equal tickets and with marks of the right length.
+
+    Give (0, the new output run), or (7, 9, 10 or 11, None).
+    """
+    marks = [0] * plan.half_height
+    number = refusal(plan, 0, 0, first, count, base, enhancement, output, marks)
     if number != 0:
         return number, None
     return 0, compose_row_pairs(plan, first, count, base, enhancement, output)
 
 
-def refusal(plan, first, count, base, enhancement, output):
-    """The first rule that is broken, in document 01's order; 0 if none is."""
+def refusal(plan, open_ticket, ticket, first, count, base, enhancement, output, marks):
+    """The first rule that is broken, in the order of the house rules, or 0."""
     if breaks_rule_7(plan):
         return 7
-    if breaks_rule_9(plan, base, enhancement, output):
+    if breaks_rule_8(open_ticket, ticket):
+        return 8
+    if breaks_rule_9(plan, base, enhancement, output, marks):
         return 9
     if breaks_rule_10(plan, first, count):
         return 10
@@ -75,12 +81,22 @@ def _quantization_in_range(plan, cmp):
             and 0 <= plan.fp_linear_deadzone_threshold[cmp] < 2 << d)
 
 
-def breaks_rule_9(plan, base, enhancement, output):
-    """A lent run of the wrong length (there are no marks here)."""
+def breaks_rule_8(open_ticket, ticket):
+    """The job's own ticket is not that of the opened picture."""
+    return ticket != open_ticket
+
+
+def breaks_rule_9(plan, base, enhancement, output, marks):
+    """A lent run of the wrong length."""
     size = plan.picture_samples
-    if len(base) != size or len(output) != size:
+    if len(base) != size or len(output) != size or marks_misfit(plan, marks):
         return True
     return enhancement_used(plan, enhancement) and len(enhancement) != size
+
+
+def marks_misfit(plan, marks):
+    """The part of rule 9 that an opening has too."""
+    return len(marks) != plan.half_height
 
 
 def breaks_rule_10(plan, first, count):

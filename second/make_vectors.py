@@ -1,6 +1,6 @@
 """Makes the vectors, or checks the stored ones.
 
-    python3 make_vectors.py OUTDIR            writes the four files
+    python3 make_vectors.py OUTDIR            writes the six files
     python3 make_vectors.py --check OUTDIR    exit 1 if one differs or is missing
 """
 
@@ -13,6 +13,7 @@ import answers
 import block
 import block_cases
 import composer
+import night_cases
 import sample_cases
 
 
@@ -43,6 +44,23 @@ def block_stream(bases, cases):
     return bytes(out)
 
 
+def night_stream(nights):
+    """stdin of night_vectors."""
+    out = bytearray()
+    for night in nights:
+        data = block.write(night.plan)
+        out += struct.pack(">H", len(data)) + data
+        out += bytes([len(night.runs)])
+        for run in night.runs:
+            out += u16_run(run)
+        out += struct.pack(">H", len(night.marks)) + bytes(night.marks)
+        out += struct.pack(">HIBH", night.output_size, night.ticket, night.opening,
+                           len(night.jobs))
+        for job in night.jobs:
+            out += struct.pack(">BIIHHBB", *job)
+    return bytes(out)
+
+
 def text(lines):
     return "".join(line + "\n" for line in lines).encode("ascii")
 
@@ -55,13 +73,19 @@ def make():
     bases, reads = block_cases.all_cases()
     block_stdin = block_stream(bases, reads)
     block_lines = answers.block_answers(block_stdin)
+    nights = night_cases.all_nights()
+    night_stdin = night_stream(nights)
+    night_lines = answers.night_answers(night_stdin)
     files = {
         os.path.join("sample_vectors", "stdin"): sample_stdin,
         os.path.join("sample_vectors", "stdout"): text(sample_lines),
         os.path.join("block_vectors", "stdin"): block_stdin,
-        os.path.join("block_vectors", "stdout"): text(block_lines)}
+        os.path.join("block_vectors", "stdout"): text(block_lines),
+        os.path.join("night_vectors", "stdin"): night_stdin,
+        os.path.join("night_vectors", "stdout"): text(night_lines)}
     summary = (sample_summary(samples, sample_lines)
-               + table("block_vectors", reads, block_lines))
+               + table("block_vectors", reads, block_lines)
+               + night_summary(nights, night_lines))
     return files, summary
 
 
@@ -75,6 +99,29 @@ def sample_summary(cases, lines):
     return table("sample_vectors", cases, lines) + [
         "  composed samples: %d from random plans, %d from edge cases"
         % (composed["random plans"], composed["edge cases"])]
+
+
+def night_summary(nights, lines):
+    """Counts of openings and jobs by answer, then by kind of night."""
+    openings, jobs, kinds = [], [], {}
+    at = 0
+    for night in nights:
+        given = [night_answer_of(line) for line in lines[at:at + 1 + len(night.jobs)]]
+        at += len(given) + 2
+        openings.append(given[0])
+        jobs += given[1:]
+        kinds.setdefault(night.kind, []).append(given)
+    out = ["night_vectors: %d nights, %d jobs" % (len(nights), len(jobs)),
+           "  openings: " + counts(openings), "  jobs: " + counts(jobs)]
+    for kind, found in kinds.items():
+        out.append("  %5d %s (%s; %s)" % (
+            len(found), kind, counts(given[0] for given in found),
+            counts(answer for given in found for answer in given[1:])))
+    return out
+
+
+def night_answer_of(line):
+    return line if line.startswith("refused") else line.split()[0]
 
 
 def answer_of(line):
@@ -129,7 +176,7 @@ def main():
         if fault is not None:
             print("make_vectors: " + fault)
             sys.exit(1)
-        print("make_vectors: the four stored files are as the second program gives them")
+        print("make_vectors: the six stored files are as the second program gives them")
     elif len(arguments) == 1 and not arguments[0].startswith("-"):
         write(arguments[0])
     else:

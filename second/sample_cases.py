@@ -378,7 +378,7 @@ def sum_cases(generator):
 
 
 def example_cases():
-    """The worked examples of document 01, in 2 x 2 pictures without residual."""
+    """The worked examples of the house rules, in 2 x 2 pictures without residual."""
     one = 1 << 15
     linear = [0, one]
     wide, narrow = [0, 1023], [100, 200]
@@ -627,14 +627,19 @@ def random_enhancement_sample(plan, cmp, v, generator):
     return pinning_enhancement(plan, cmp, v, generator.choice(edges_of_rounding(plan)))
 
 
-def random_case(generator):
+def random_plan(shapes, generator):
     depth = generator.choice(DEPTHS)
     d = generator.choice((depth + 5, 32, 32, generator.between(depth + 5, 32),
                           generator.between(depth + 5, 32), 23))
-    width, height = generator.choice(SHAPES[5:])
+    width, height = generator.choice(shapes)
     sections = [random_section(depth, d, generator) for _ in range(3)]
     flag = 1 if generator.one_in(8) else 0
-    plan = make_plan(depth, d, generator.choice((10, 12)), width, height, sections, flag)
+    return make_plan(depth, d, generator.choice((10, 12)), width, height, sections, flag)
+
+
+def random_picture(plan, generator):
+    """(base, enhancement) of good samples, many of them telling."""
+    depth = plan.BL_bit_depth
     pivot_value = assign_pivot_values(plan.pred_pivot_value, plan.num_pivots_minus2)
     base, enhancement = [], []
     for cmp in range(3):
@@ -643,6 +648,12 @@ def random_case(generator):
             v = map_sample(plan, pivot_value, cmp, s)
             base.append(s)
             enhancement.append(random_enhancement_sample(plan, cmp, v, generator))
+    return base, enhancement
+
+
+def random_case(generator):
+    plan = random_plan(SHAPES[5:], generator)
+    base, enhancement = random_picture(plan, generator)
     if generator.one_in(12):
         enhancement = []
     first, count = 0, plan.half_height

@@ -1,4 +1,4 @@
-"""Checks the second program against document 01's examples and hand work."""
+"""Checks the second program against the house rules' examples and hand work."""
 
 import copy
 import struct
@@ -6,7 +6,11 @@ import struct
 import answers
 import block
 import block_cases
+import composer
 import jobs
+import make_vectors
+import night_cases
+import nights
 from composer import (Plan, assign_pivot_values, compose_row_pairs, derive_pivot_idx,
                       inverse_quantization, map_sample, reconstruct)
 
@@ -41,7 +45,7 @@ def mapped(s, **choices):
 
 
 def test_examples():
-    """E1 to E14 of document 01; one is 1.0 at d = 15."""
+    """E1 to E14 of the house rules; one is 1.0 at d = 15."""
     one = 1 << 15
     assert mapped(0) == 0                                               # E1
     assert mapped(1) == 64                                              # E2
@@ -274,6 +278,274 @@ def test_jobs():
     plan.disable_residual_flag = 1
     assert jobs.job(plan, 1, 1, base, [65535], output) == (0, composed)
     assert compose_row_pairs(plan, 0, 0, base, [], output) == output
+
+
+def tall_plan(row_pairs, flag=0):
+    """2 samples wide, linear; one above the offset, 512, the residual is 114."""
+    plan = small_plan()
+    plan.half_height = row_pairs
+    plan.disable_residual_flag = flag
+    for cmp in range(3):
+        plan.nlq_offset[cmp] = 512
+        plan.fp_hdr_in_max[cmp] = 1 << 15
+        plan.fp_linear_deadzone_slope[cmp] = 100
+        plan.fp_linear_deadzone_threshold[cmp] = 7
+    return plan
+
+
+def test_opening():
+    plan = tall_plan(3)
+    marks = bytearray([0, 1, 200])
+    assert nights.open_picture(Plan(), 5, marks) == (7, None)
+    assert nights.open_picture(Plan(), 5, bytearray()) == (7, None)
+    assert list(marks) == [0, 1, 200]
+    assert nights.open_picture(plan, 0xffffffff, marks) == (0, 0xffffffff)
+    assert list(marks) == [0, 0, 0]
+    assert nights.open_picture(plan, 0, marks) == (0, 0)
+    for wrong in ([], [1, 2], [1, 2, 3, 4]):
+        marks = bytearray(wrong)
+        assert nights.open_picture(plan, 5, marks) == (9, None)
+        assert nights.open_picture(Plan(), 5, marks) == (7, None)      # 7 before 9
+        assert list(marks) == wrong
+
+
+class Room:
+    """A memory, an open ticket and good runs; every job says what it changes."""
+
+    def __init__(self, plan, marks):
+        self.plan = plan
+        self.marks = bytearray(marks)
+        self.output = answers.untouched_output(plan.picture_samples)
+        self.base = [1023] * plan.picture_samples
+
+    def job(self, first, count, plan=None, own=77, base=None, enhancement=()):
+        return nights.row_job(plan or self.plan, 77, own, first, count,
+                              self.base if base is None else base,
+                              list(enhancement), self.output, self.marks)
+
+
+def test_worked_night():
+    """H = 4: (0,1), (0,1), (1,1) leave 1, 1, 0; (2,1) is refused 10."""
+    room = Room(tall_plan(2), [3, 0])
+    assert nights.open_picture(room.plan, 77, room.marks) == (0, 77)
+    assert room.job(0, 1) == (0, 1)
+    assert list(room.marks) == [1, 0]
+    # Row pair 0 is luma 0..3, Cb 8, Cr 10; 65,472 + 8 >> 4 = 4,092.
+    after_one = [4092, 4092, 4092, 4092, 60004, 60005, 60006, 60007,
+                 4092, 60009, 4092, 60011]
+    assert room.output == after_one
+    assert room.job(0, 1) == (0, 1)
+    assert room.output == after_one and list(room.marks) == [1, 0]
+    assert room.job(1, 1) == (0, 0)
+    assert room.job(2, 1) == (10, None)
+    assert room.output == [4092] * 12 and list(room.marks) == [1, 1]
+    assert room.job(0, 2) == (0, 0)                # replayed after the end
+
+
+def test_rows_left():
+    """Five row pairs: marks are counted, no count is subtracted."""
+    room = Room(tall_plan(5), [0] * 5)
+    for first, count, left in ((1, 2, 3), (1, 2, 3), (2, 2, 2), (1, 1, 2), (0, 4, 1),
+                               (3, 2, 0), (0, 1, 0)):
+        assert room.job(first, count) == (0, left)
+    assert list(room.marks) == [1] * 5
+
+
+def test_spoiled_marks():
+    """Without an opening: any value but 0 reads as done, and a job writes 1."""
+    room = Room(tall_plan(4), [0, 7, 255, 0])
+    assert room.job(1, 1) == (0, 2)
+    assert list(room.marks) == [0, 1, 255, 0]
+    assert room.job(0, 1, own=78) == (8, None)
+    assert room.job(0, 1) == (0, 1)
+    assert room.job(3, 1) == (0, 0)
+    assert list(room.marks) == [1, 1, 255, 1]
+    assert room.output[8:12] == [60008, 60009, 60010, 60011]      # row pair 2
+
+
+def test_order_of_refusals():
+    """7, 8, 9, 10, 11: the faults are mended one by one, nothing is written."""
+    room = Room(tall_plan(2), [9, 0])
+    wild = [1024] * 12
+    assert room.job(0, 3, plan=Plan(), own=78, base=wild[1:]) == (7, None)
+    assert room.job(0, 3, own=78, base=wild[1:]) == (8, None)
+    assert room.job(0, 3, base=wild[1:]) == (9, None)
+    assert room.job(0, 3, base=wild) == (10, None)
+    assert room.job(0, 2, base=wild) == (11, None)
+    assert room.job(0, 0, base=wild, enhancement=wild[1:]) == (9, None)
+    assert room.job(0, 0, base=wild, enhancement=wild) == (10, None)
+    assert room.job(0, 1, enhancement=wild) == (11, None)
+    assert room.job(65535, 1) == room.job(1, 65535) == room.job(2, 0) == (10, None)
+    assert room.job(0, 1, own=77 + (1 << 16)) == (8, None)
+    # Row pair 1 is good and row pair 0 is not: its last sample is Cr 10.
+    half = [1023] * 10 + [1024, 1023]
+    assert room.job(0, 2, base=half) == room.job(0, 1, base=half) == (11, None)
+    assert room.output == answers.untouched_output(12) and list(room.marks) == [9, 0]
+    assert room.job(1, 1, base=half) == (0, 0)
+    # A memory of the wrong size: 9, after 7 and 8 and before 10 and 11.
+    for output, marks in ((12, 1), (12, 3), (12, 0), (11, 2), (13, 2), (0, 2)):
+        room.output = answers.untouched_output(output)
+        room.marks = bytearray([5] * marks)
+        assert room.job(0, 1, plan=Plan()) == (7, None)
+        assert room.job(0, 1, own=78) == (8, None)
+        assert room.job(0, 1) == room.job(0, 3) == room.job(0, 1, base=wild) == (9, None)
+        assert room.output == answers.untouched_output(output)
+        assert list(room.marks) == [5] * marks
+
+
+def test_later_samples_stand():
+    """Not within demand 3's premises: each job composes what it was lent."""
+    room = Room(tall_plan(2), [0, 0])
+    low, above = [1] * 12, [513] * 12
+    # s = 1 maps to 64; 64 + 8 >> 4 = 4; with the residual 64 + 114 + 8 >> 4 = 11.
+    assert room.job(0, 2, base=low, enhancement=above) == (0, 0)
+    assert room.output == [11] * 12
+    assert room.job(1, 1, base=low) == (0, 0)
+    assert room.output == [11] * 4 + [4] * 4 + [11, 4, 11, 4]
+    assert room.job(0, 1) == (0, 0)
+    assert room.output == [4092] * 4 + [4] * 4 + [4092, 4, 4092, 4]
+    # Flag 1: the enhancement is ignored, whatever its length and samples.
+    room = Room(tall_plan(2, flag=1), [0, 0])
+    for ignored in ([], above, [65535], [65535] * 12, [0] * 13):
+        assert room.job(1, 1, base=low, enhancement=ignored) == (0, 1)
+        assert room.output[4:8] == [4] * 4
+
+
+def played(night):
+    """(opening, [(job, answer)], output run, marks) through the stream's bytes."""
+    lines = answers.night_answers(make_vectors.night_stream([night]))
+    assert len(lines) == len(night.jobs) + 3
+    output, marks = ([int(word) for word in line.split()] for line in lines[-2:])
+    return lines[0], list(zip(night.jobs, lines[1:-2])), output, marks
+
+
+def place_of(plan, at):
+    """(cmp, row pair) of the sample at this place of a picture."""
+    W, H = plan.width, plan.height
+    if at < W * H:
+        return 0, at // W // 2
+    at -= W * H
+    if at < W * H // 4:
+        return 1, at // (W // 2)
+    return 2, (at - W * H // 4) // (W // 2)
+
+
+def composed_sample(plan, at, base, enhancement):
+    """Demand 2 for one sample."""
+    cmp, _ = place_of(plan, at)
+    pivot_value = assign_pivot_values(plan.pred_pivot_value, plan.num_pivots_minus2)
+    v = map_sample(plan, pivot_value, cmp, base[at])
+    if plan.disable_residual_flag == 1 or enhancement == []:
+        return reconstruct(v, 0, 1, plan.hdr_bit_depth)
+    return reconstruct(v, composer.residual(plan, cmp, enhancement[at]), 0,
+                       plan.hdr_bit_depth)
+
+
+def lent_runs(night, job):
+    none = job.enhancement == answers.NO_RUN
+    return night.runs[job.base], [] if none else night.runs[job.enhancement]
+
+
+def test_demand_3():
+    """Demand 3's sentence over the random nights; marks play no part in it."""
+    chosen = [night for night in night_cases.all_nights() if night.kind == "random"]
+    accepted = refused = complete = 0
+    for night in chosen:
+        opening, jobs_done, output, _ = played(night)
+        assert opening == "open %d" % night.ticket
+        named, lent = set(), []
+        for job, answer in jobs_done:
+            assert job.open_ticket == night.ticket
+            if answer.startswith("refused"):
+                refused += 1
+                continue
+            accepted += 1
+            assert job.plan == night_cases.BLOCK_PLAN
+            lent.append(lent_runs(night, job))
+            named |= set(range(job.first, job.first + job.count))
+            left = len(set(range(night.plan.half_height)) - named)
+            assert answer == ("complete" if left == 0 else "left %d" % left)
+        for base, enhancement in lent:              # the premises
+            assert base == lent[0][0]
+            assert night.plan.disable_residual_flag or enhancement == lent[0][1]
+        at_opening = answers.untouched_output(night.plan.picture_samples)
+        for at, before in enumerate(at_opening):
+            if place_of(night.plan, at)[1] in named:
+                assert output[at] == composed_sample(night.plan, at, *lent[0])
+            else:
+                assert output[at] == before
+        complete += len(named) == night.plan.half_height
+    assert len(chosen) >= 60 and accepted > 600 and refused > 300
+    assert 40 <= complete < len(chosen)
+    shapes = {(night.plan.half_height, night.plan.BL_bit_depth) for night in chosen}
+    assert len(shapes) == 16                        # H/2 from 1 to 8, both depths
+
+
+def test_any_night():
+    """Every night: the last accepted job that named a row pair decides its samples."""
+    for night in night_cases.all_nights():
+        opening, jobs_done, output, marks = played(night)
+        opened = opening == "open %d" % night.ticket
+        assert opened or opening in ("refused 7", "refused 9")
+        before = [0] * len(night.marks) if opened else night.marks
+        last = {}
+        for job, answer in jobs_done:
+            if not answer.startswith("refused"):
+                for k in range(job.first, job.first + job.count):
+                    last[k] = lent_runs(night, job)
+                left = sum(1 for k, mark in enumerate(before)
+                           if mark == 0 and k not in last)
+                assert answer == ("complete" if left == 0 else "left %d" % left)
+        assert marks == [1 if k in last else mark for k, mark in enumerate(before)]
+        for at, sample in enumerate(answers.untouched_output(night.output_size)):
+            k = place_of(night.plan, at)[1]
+            if k in last:
+                sample = composed_sample(night.plan, at, *last[k])
+            assert output[at] == sample
+
+
+def broken_rules(night, job):
+    """The rules that a job breaks, each looked at by itself."""
+    size, top = night.plan.picture_samples, (1 << night.plan.BL_bit_depth) - 1
+    base, enhancement = lent_runs(night, job)
+    used = [base]
+    if night.plan.disable_residual_flag == 0 and enhancement:
+        used.append(enhancement)
+    rules = []
+    if job.plan == night_cases.ZERO_PLAN:
+        rules.append(7)
+    if job.ticket != job.open_ticket:
+        rules.append(8)
+    if any(len(run) != size for run in used):
+        rules.append(9)
+    if job.count == 0 or job.first + job.count > night.plan.half_height:
+        rules.append(10)
+    if any(max(run, default=0) > top for run in used):
+        rules.append(11)
+    return tuple(rules)
+
+
+def test_order_nights():
+    """All 31 choices of rules 7 to 11 are there, and the lowest is the answer."""
+    found = set()
+    for night in night_cases.all_nights():
+        if night.kind.endswith("alone") or night.kind.endswith("before later rules"):
+            _, jobs_done, _, _ = played(night)
+            for job, answer in jobs_done:
+                rules = broken_rules(night, job)
+                found.add(rules)
+                assert answer == ("refused %d" % rules[0] if rules else answer)
+                assert answer.startswith("refused") == (rules != ())
+    assert len(found) == 32
+
+
+def test_night_limits():
+    """What README.md says of the sizes in night_vectors."""
+    for night in night_cases.all_nights():
+        assert night.plan.picture_samples <= 96 and night.output_size <= 96
+        assert len(night.marks) <= 48 and len(night.runs) < answers.NO_RUN
+        assert all(len(run) <= 96 for run in night.runs)
+        assert not jobs.breaks_rule_7(night.plan)
 
 
 def main():

@@ -2,8 +2,8 @@ use mathlib.Core.Path.{sym}
 use borrow.Author.Needs.{needs}
 use lib.Seq.{length-take-le}
 use native.Mathlib.Omega.{arith}
-use Rattle.sample_vectors.proofs.next_block.Statement.{statement}
-use Rattle.sample_vectors.proofs.next_block.Tie as tie
+use Rattle.streams.proofs.next_block.Statement.{statement}
+use Rattle.streams.proofs.next_block.Tie as tie
 
 slice-aggregate-read : tie.Need-slice-aggregate-read
 slice-aggregate-read c = search needs

@@ -2,8 +2,8 @@ use borrow.Author.Needs.{needs}
 use Prim.Native.Nat.{_*_, _≤_, _^_}
 use native.Mathlib.Nat.{mul-le-mul, le-of-lt}
 use native.Mathlib.Omega.{arith}
-use Rattle.sample_vectors.proofs.size_of.Statement.{statement}
-use Rattle.sample_vectors.proofs.size_of.Tie as tie
+use Rattle.streams.proofs.size_of.Statement.{statement}
+use Rattle.streams.proofs.size_of.Tie as tie
 
 small : (c : tie.Start) → c .args .columns * c .args .pairs ≤ 2 ^ 16 * 2 ^ 16
 small c = mul-le-mul (le-of-lt (c .fits .columns .fits)) (le-of-lt (c .fits .pairs .fits))

@@ -1,32 +1,25 @@
 use mathlib.Core.Path.{_≡_, refl}
-use mathlib.Core.Path.{ap, _∙_}
 use borrow.Author.Needs.{needs}
 use Prim.Native.Nat.{_≤_, _-_}
 use native.Mathlib.Omega.{arith}
 use lib.ListN.{length, length-set}
-use Rattle.sample_vectors.proofs.untouch.Statement.{statement}
-use Rattle.sample_vectors.proofs.untouch.Tie as tie
+use Rattle.night_vectors.proofs.guard_samples.Statement.{statement}
+use Rattle.night_vectors.proofs.guard_samples.Tie as tie
 
 abbrev Inv-loop : tie.InvT-loop
-Inv-loop run₀ i₀ run i = (i ≤ length run) × (length run ≡ length run₀)
+Inv-loop room₀ i₀ room i = (i ≤ length room) × (length room ≡ length room₀)
 
 abbrev μ-loop : tie.MeasureT-loop
-μ-loop run₀ i₀ run i = length run - i
+μ-loop room₀ i₀ room i = length room - i
 
 loop-holds : tie.Need-loop-holds Inv-loop μ-loop
 loop-holds c = (omega arith, refl)
 
-cast-run : tie.Need-cast-run Inv-loop μ-loop
-cast-run c = search needs
+mul-room : tie.Need-mul-room Inv-loop μ-loop
+mul-room c = search needs
 
-add-run : tie.Need-add-run Inv-loop μ-loop
-add-run c = search needs
-
-mul-run : tie.Need-mul-run Inv-loop μ-loop
-mul-run c = search needs
-
-slice-write-run : tie.Need-slice-write-run Inv-loop μ-loop
-slice-write-run c = search needs
+slice-write-room : tie.Need-slice-write-room Inv-loop μ-loop
+slice-write-room c = search needs
 
 add-i : tie.Need-add-i Inv-loop μ-loop
 add-i c = search needs
@@ -47,17 +40,15 @@ same-length c =
 returns : tie.Need-returns Inv-loop μ-loop
 returns c = search needs
 
-pub untouch-spec : {M : Type 1} → statement M
-untouch-spec =
+pub guard-samples-spec : {M : Type 1} → statement M
+guard-samples-spec =
     tie.close
     (tie.spec
     Inv-loop
     μ-loop
     loop-holds
-    cast-run
-    add-run
-    mul-run
-    slice-write-run
+    mul-room
+    slice-write-room
     add-i
     loop-less
     loop-again

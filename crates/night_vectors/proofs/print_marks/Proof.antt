@@ -2,14 +2,14 @@ use borrow.Author.Needs.{needs}
 use Prim.Native.Nat.{_≤_, _-_}
 use native.Mathlib.Omega.{arith}
 use lib.ListN.{length}
-use Rattle.sample_vectors.proofs.print_run.Statement.{statement}
-use Rattle.sample_vectors.proofs.print_run.Tie as tie
+use Rattle.night_vectors.proofs.print_marks.Statement.{statement}
+use Rattle.night_vectors.proofs.print_marks.Tie as tie
 
 abbrev Inv-loop : tie.InvT-loop
-Inv-loop samples i₀ t3 t4 i = i ≤ length samples
+Inv-loop marks i₀ t3 t4 i = i ≤ length marks
 
 abbrev μ-loop : tie.MeasureT-loop
-μ-loop samples i₀ t3 t4 i = length samples - i
+μ-loop marks i₀ t3 t4 i = length marks - i
 
 loop-holds : tie.Need-loop-holds Inv-loop μ-loop
 loop-holds c = search needs
@@ -20,14 +20,11 @@ slice-aggregate-write-all c = search needs
 write-all-requires : tie.Need-write-all-requires Inv-loop μ-loop
 write-all-requires c κs = search needs
 
-mul-print-sample : tie.Need-mul-print-sample Inv-loop μ-loop
-mul-print-sample c = search needs
+shared-slice-read-print-mark : tie.Need-shared-slice-read-print-mark Inv-loop μ-loop
+shared-slice-read-print-mark c = search needs
 
-shared-slice-read-print-sample : tie.Need-shared-slice-read-print-sample Inv-loop μ-loop
-shared-slice-read-print-sample c = search needs
-
-print-sample-requires : tie.Need-print-sample-requires Inv-loop μ-loop
-print-sample-requires c κs = search needs
+print-mark-requires : tie.Need-print-mark-requires Inv-loop μ-loop
+print-mark-requires c κs = search needs
 
 add-i : tie.Need-add-i Inv-loop μ-loop
 add-i c = search needs
@@ -47,8 +44,8 @@ write-all-requires-2 c κs = search needs
 returns : tie.Need-returns Inv-loop μ-loop
 returns c = search needs
 
-pub print-run-spec : {M : Type 1} → statement M
-print-run-spec =
+pub print-marks-spec : {M : Type 1} → statement M
+print-marks-spec =
     tie.close
     (tie.spec
     Inv-loop
@@ -56,9 +53,8 @@ print-run-spec =
     loop-holds
     slice-aggregate-write-all
     write-all-requires
-    mul-print-sample
-    shared-slice-read-print-sample
-    print-sample-requires
+    shared-slice-read-print-mark
+    print-mark-requires
     add-i
     loop-less
     loop-again

@@ -1,29 +1,26 @@
 use mathlib.Core.Path.{_≡_, refl}
-use mathlib.Core.Logic.{inl, inr}
+use mathlib.Core.Path.{ap, _∙_}
 use borrow.Author.Needs.{needs}
 use Prim.Native.Nat.{_≤_, _-_}
 use native.Mathlib.Omega.{arith}
 use lib.ListN.{length, length-set}
-use Rattle.sample_vectors.proofs.next_run.Statement.{statement}
-use Rattle.sample_vectors.proofs.next_run.Tie as tie
+use Rattle.streams.proofs.untouch.Statement.{statement}
+use Rattle.streams.proofs.untouch.Tie as tie
 
 abbrev Inv-loop : tie.InvT-loop
-Inv-loop run₀ wanted i₀ run i = (i ≤ wanted) × (length run ≡ length run₀)
+Inv-loop run₀ i₀ run i = (i ≤ length run) × (length run ≡ length run₀)
 
 abbrev μ-loop : tie.MeasureT-loop
-μ-loop run₀ wanted i₀ run i = wanted - i
-
-next-number-requires : tie.Need-next-number-requires Inv-loop μ-loop
-next-number-requires c κs = search needs
+μ-loop run₀ i₀ run i = length run - i
 
 loop-holds : tie.Need-loop-holds Inv-loop μ-loop
 loop-holds c = (omega arith, refl)
 
-next-number-requires-2 : tie.Need-next-number-requires-2 Inv-loop μ-loop
-next-number-requires-2 c κs = search needs
-
 cast-run : tie.Need-cast-run Inv-loop μ-loop
 cast-run c = search needs
+
+add-run : tie.Need-add-run Inv-loop μ-loop
+add-run c = search needs
 
 mul-run : tie.Need-mul-run Inv-loop μ-loop
 mul-run c = search needs
@@ -35,12 +32,12 @@ add-i : tie.Need-add-i Inv-loop μ-loop
 add-i c = search needs
 
 loop-less : tie.Need-loop-less Inv-loop μ-loop
-loop-less c = search needs
+loop-less c = simp length-set (omega arith)
 
 loop-again : tie.Need-loop-again Inv-loop μ-loop
 loop-again c =
     let lp : tie.At-loop Inv-loop μ-loop = search needs in
-    (omega arith, elim (c .if1 .came) [ inl w ↦ rw (w .1) (simp length-set (lp .loop .inv .1)) | inr w ↦ rw (w .1) (lp .loop .inv .1) ])
+    (simp length-set (omega arith), simp length-set (lp .loop .inv .1))
 
 same-length : tie.Need-same-length Inv-loop μ-loop
 same-length c =
@@ -50,16 +47,15 @@ same-length c =
 returns : tie.Need-returns Inv-loop μ-loop
 returns c = search needs
 
-pub next-run-spec : {M : Type 1} → statement M
-next-run-spec =
+pub untouch-spec : {M : Type 1} → statement M
+untouch-spec =
     tie.close
     (tie.spec
     Inv-loop
     μ-loop
-    next-number-requires
     loop-holds
-    next-number-requires-2
     cast-run
+    add-run
     mul-run
     slice-write-run
     add-i

@@ -1,0 +1,67 @@
+use borrow.Author.Needs.{needs}
+use Prim.Native.Nat.{_≤_, _-_}
+use native.Mathlib.Omega.{arith}
+use lib.ListN.{length}
+use Rattle.streams.proofs.print_run.Statement.{statement}
+use Rattle.streams.proofs.print_run.Tie as tie
+
+abbrev Inv-loop : tie.InvT-loop
+Inv-loop samples i₀ t3 t4 i = i ≤ length samples
+
+abbrev μ-loop : tie.MeasureT-loop
+μ-loop samples i₀ t3 t4 i = length samples - i
+
+loop-holds : tie.Need-loop-holds Inv-loop μ-loop
+loop-holds c = search needs
+
+slice-aggregate-write-all : tie.Need-slice-aggregate-write-all Inv-loop μ-loop
+slice-aggregate-write-all c = search needs
+
+write-all-requires : tie.Need-write-all-requires Inv-loop μ-loop
+write-all-requires c κs = search needs
+
+mul-print-sample : tie.Need-mul-print-sample Inv-loop μ-loop
+mul-print-sample c = search needs
+
+shared-slice-read-print-sample : tie.Need-shared-slice-read-print-sample Inv-loop μ-loop
+shared-slice-read-print-sample c = search needs
+
+print-sample-requires : tie.Need-print-sample-requires Inv-loop μ-loop
+print-sample-requires c κs = search needs
+
+add-i : tie.Need-add-i Inv-loop μ-loop
+add-i c = search needs
+
+loop-less : tie.Need-loop-less Inv-loop μ-loop
+loop-less c = search needs
+
+loop-again : tie.Need-loop-again Inv-loop μ-loop
+loop-again c = search needs
+
+slice-aggregate-write-all-2 : tie.Need-slice-aggregate-write-all-2 Inv-loop μ-loop
+slice-aggregate-write-all-2 c = search needs
+
+write-all-requires-2 : tie.Need-write-all-requires-2 Inv-loop μ-loop
+write-all-requires-2 c κs = search needs
+
+returns : tie.Need-returns Inv-loop μ-loop
+returns c = search needs
+
+pub print-run-spec : {M : Type 1} → statement M
+print-run-spec =
+    tie.close
+    (tie.spec
+    Inv-loop
+    μ-loop
+    loop-holds
+    slice-aggregate-write-all
+    write-all-requires
+    mul-print-sample
+    shared-slice-read-print-sample
+    print-sample-requires
+    add-i
+    loop-less
+    loop-again
+    slice-aggregate-write-all-2
+    write-all-requires-2
+    returns)

@@ -1,0 +1,620 @@
+"""Nights for night_vectors: openings, jobs, refusals and their order.
+
+A night is one opening and its jobs, all on one memory.  A job that is to be
+refused brings other samples than the accepted ones, and most nights leave row
+pairs that no accepted job names: a refused job that writes is then seen in the
+output run, and one that marks is seen in the marks and in the rows left.
+"""
+
+from collections import namedtuple
+from itertools import combinations
+
+from answers import NO_RUN
+from composer import row_pair_samples
+from generator import Generator
+from sample_cases import (DEPTHS, make_plan, plain_sections, random_picture, random_plan,
+                          random_run, replaced)
+
+Night = namedtuple("Night", "kind plan runs marks output_size ticket opening jobs")
+Job = namedtuple("Job", "plan open_ticket ticket first count base enhancement")
+
+BLOCK_PLAN, ZERO_PLAN = 0, 1        # which plan an opening or a job is given
+LARGEST_RUN = 96
+LARGEST_MARKS = 48
+TICKETS = 1 << 32
+
+# The places of the runs that every stock has.
+BASE, ENHANCEMENT, OTHER, BAD, MISFIT, WILD = range(6)
+
+
+class Stock:
+    """A plan, a ticket, and the runs that jobs name by their place.
+
+    BASE and ENHANCEMENT are those of the accepted jobs.  The others are for
+    jobs that are to be refused: OTHER is good; BAD is OTHER with one bad sample,
+    the last one of row pair self.bad; MISFIT has a wrong length; WILD has a
+    wrong length and bad samples only.
+    """
+
+    def __init__(self, plan, generator, base=None, enhancement=None):
+        size, depth = plan.picture_samples, plan.BL_bit_depth
+        self.plan = plan
+        self.ticket = generator.below(TICKETS)
+        self.rows = plan.half_height
+        self.bad = generator.below(self.rows)
+        if base is None:
+            base, enhancement = (random_run(size, depth, generator) for _ in range(2))
+        other = random_run(size, depth, generator)
+        last = list(row_pair_samples(plan, self.bad))[-1][1]
+        self.runs = [base, enhancement, other, replaced(other, last, 1 << depth),
+                     (other + other)[:wrong_length(size, generator)],
+                     [65535] * wrong_length(size, generator)]
+
+    def add(self, run):
+        """Keep one more run and give its place."""
+        self.runs.append(run)
+        return len(self.runs) - 1
+
+    def enhancement(self):
+        return ENHANCEMENT if self.runs[ENHANCEMENT] else NO_RUN
+
+    def job(self, first, count, **changes):
+        """A good job, if the picture has these row pairs, with some changes."""
+        good = Job(BLOCK_PLAN, self.ticket, self.ticket, first, count, BASE,
+                   self.enhancement())
+        return good._replace(**changes)
+
+    def breaking(self, rules, generator):
+        """A job that breaks these rules; they may be none."""
+        first, count = self._row_pairs(rules, generator)
+        base, enhancement = self._lent_runs(rules, generator)
+        job = self.job(first, count, base=base, enhancement=enhancement)
+        if 7 in rules:
+            job = job._replace(plan=ZERO_PLAN)
+        if 8 in rules:
+            job = job._replace(ticket=other_ticket(self.ticket, generator))
+        return job
+
+    def _row_pairs(self, rules, generator):
+        if 10 in rules and 11 not in rules:
+            return generator.choice(beyond(self.rows))
+        least = self.bad if 11 in rules else generator.below(self.rows)
+        first = generator.between(0, least)
+        if 10 in rules:
+            return first, generator.choice((self.rows - first + 1, 65535))
+        return first, generator.between(least - first + 1, self.rows - first)
+
+    def _lent_runs(self, rules, generator):
+        right = self.enhancement()
+        base = {(): OTHER, (9,): MISFIT, (11,): BAD, (9, 11): WILD}
+        faults = tuple(rule for rule in (9, 11) if rule in rules)
+        if self.plan.disable_residual_flag:
+            ignored = generator.choice((right, NO_RUN, OTHER, BAD, MISFIT, WILD))
+            return base[faults], ignored
+        choices = [(base[faults], right)]
+        if faults:
+            choices.append((OTHER, base[faults]))
+        if faults == (9, 11):
+            choices += [(BAD, MISFIT), (MISFIT, BAD)]
+        return generator.choice(choices)
+
+
+def wrong_length(size, generator):
+    """Not the size of the picture, not 0, and at most 96."""
+    lengths = [1, size // 2, size - 1, size - 1, size + 1, size + 1, size + 3]
+    return generator.choice([length for length in lengths if length <= LARGEST_RUN])
+
+
+def other_ticket(ticket, generator):
+    """One bit away, one away, far away."""
+    kind = generator.below(4)
+    if kind == 0:
+        return (ticket + generator.choice((1, TICKETS - 1))) % TICKETS
+    if kind == 1:
+        return (ticket + generator.between(1, TICKETS - 1)) % TICKETS
+    return ticket ^ (1 << generator.below(32))
+
+
+def beyond(rows):
+    """(first, count) that rule 10 refuses; some wrap to good ones in 16 bits."""
+    return ((0, 0), (rows - 1, 0), (rows, 0), (65535, 0), (0, rows + 1), (rows - 1, 2),
+            (rows, 1), (rows + 1, 1), (65535, 1), (65535, 2), (65535, rows + 1),
+            (65536 - rows, rows), (1, 65535), (2, 65535), (0, 65535), (65535, 65535),
+            (32768, 32768))
+
+
+def spoiled(size):
+    """Marks with every sort of value."""
+    return [(255, 0, 2, 1, 128, 7)[k % 6] for k in range(size)]
+
+
+def night(kind, stock, jobs):
+    """An opening and jobs on a memory that fits the plan."""
+    return Night(kind, stock.plan, stock.runs, spoiled(stock.rows),
+                 stock.plan.picture_samples, stock.ticket, BLOCK_PLAN, jobs)
+
+
+def plain_stock(depth, d, hdr_bit_depth, width, height, generator, flag=0):
+    sections = plain_sections(depth, d, generator)
+    return Stock(make_plan(depth, d, hdr_bit_depth, width, height, sections, flag),
+                 generator)
+
+
+# The worked case, replays -----------------------------------------------------
+
+def worked_nights(generator):
+    """House rules: H = 4, jobs (0,1), (0,1), (1,1) leave 1, 1, 0; (2,1) is 10."""
+    nights = []
+    for depth, d, hdr_bit_depth, width, flag in ((10, 15, 12, 2, 0), (8, 13, 10, 4, 1),
+                                                 (10, 32, 10, 16, 1), (8, 21, 12, 8, 0)):
+        stock = plain_stock(depth, d, hdr_bit_depth, width, 4, generator, flag)
+        nights.append(night("worked case", stock, [
+            stock.job(0, 1), stock.job(0, 1), stock.job(1, 1), stock.job(2, 1)]))
+    return nights
+
+
+def replay_nights(generator):
+    """Jobs sent again after standby, overlapping, in many orders."""
+    sequences = (
+        (2, 8, ((0, 1), (1, 1), (2, 1), (1, 1), (2, 1), (3, 1), (3, 1), (0, 4))),
+        (2, 8, ((0, 3), (0, 3), (0, 3), (1, 2), (2, 1))),
+        (4, 8, ((0, 4), (0, 4), (1, 1))),
+        (4, 8, ((3, 1), (2, 2), (1, 3), (0, 4), (0, 1))),
+        (2, 16, ((0, 4), (0, 4), (2, 4), (2, 4), (0, 4), (5, 3), (5, 3))),
+        (4, 16, ((7, 1), (0, 1), (7, 1), (0, 1), (3, 2), (3, 2), (4, 2), (2, 3))),
+        (2, 2, ((0, 1), (0, 1), (0, 1))),
+        (32, 2, ((0, 1), (0, 1))),
+        (2, 32, ((15, 1), (0, 16), (15, 1), (0, 1))),
+        (2, 32, ((0, 8), (4, 8), (8, 7), (0, 15), (15, 1))),
+        (6, 10, ()),
+    )
+    nights = []
+    for i, (width, height, rows) in enumerate(sequences):
+        stock = plain_stock(DEPTHS[i % 2], 22, (10, 12)[i // 2 % 2], width, height,
+                            generator)
+        nights.append(night("replayed, overlapping", stock,
+                            [stock.job(first, count) for first, count in rows]))
+    return nights
+
+
+# Refusals and their order -----------------------------------------------------
+
+def around(stock, refused):
+    """Refused jobs between accepted ones; row pairs 0 and 2 stay as they were."""
+    return [stock.job(1, 1)] + refused + [stock.job(1, 1), stock.job(3, 1)]
+
+
+def alone_7(stock):
+    return [stock.job(first, count, plan=ZERO_PLAN, base=OTHER)
+            for first, count in ((0, 4), (1, 1), (2, 1), (0, 1))]
+
+
+def alone_8(stock):
+    """The own ticket wrong, the given one wrong, both."""
+    ticket = stock.ticket
+    pairs = [(ticket, ticket ^ (1 << bit)) for bit in (0, 7, 8, 15, 16, 24, 31)]
+    pairs += [(ticket, (ticket + 1) % TICKETS), (ticket, 0), (ticket, TICKETS - 1),
+              (ticket ^ (1 << 16), ticket), (0, ticket), (0, TICKETS - 1),
+              (1, 1 << 31), (ticket ^ 1, ticket ^ 2)]
+    return [stock.job(0, 4, open_ticket=given, ticket=own, base=OTHER)
+            for given, own in pairs]
+
+
+def alone_9(stock):
+    """Base and, where it is used, enhancement of wrong lengths."""
+    other, size = stock.runs[OTHER], len(stock.runs[OTHER])
+    refused = [stock.job(0, 4, base=stock.add([]))]
+    for length in (1, stock.rows, size - 1, size + 1, 2 * size):
+        place = stock.add((other + other)[:length])
+        refused.append(stock.job(0, 4, base=place))
+        if not stock.plan.disable_residual_flag:
+            refused.append(stock.job(0, 4, base=OTHER, enhancement=place))
+    refused.append(stock.job(0, 4, base=MISFIT, enhancement=NO_RUN))
+    return refused
+
+
+def alone_10(stock):
+    return [stock.job(first, count, base=OTHER) for first, count in beyond(4)]
+
+
+def alone_11(stock):
+    """One bad sample at each border of row pairs 1 and 2."""
+    depth = stock.plan.BL_bit_depth
+    inside = [at for k in (1, 2) for _, at in row_pair_samples(stock.plan, k)]
+    refused = []
+    for i, at in enumerate(sorted(inside)):
+        if at - 1 in inside and at + 1 in inside:
+            continue
+        bad = stock.add(replaced(stock.runs[OTHER], at,
+                                 (1 << depth, 65535, 2 << depth)[i % 3]))
+        refused.append(stock.job(1, 2, base=bad))
+        refused.append(stock.job(1, 2, base=bad, enhancement=NO_RUN))
+        if not stock.plan.disable_residual_flag:
+            refused.append(stock.job(1, 2, base=OTHER, enhancement=bad))
+    return refused
+
+
+def alone_nights(generator):
+    """Each rule broken by itself, in many ways."""
+    nights = []
+    for rule, make in ((7, alone_7), (8, alone_8), (9, alone_9), (10, alone_10),
+                       (11, alone_11)):
+        for depth, d, flag in ((8, 20, 0), (10, 26, 0), (10, 17, 1)):
+            stock = plain_stock(depth, d, (12, 10)[flag], 2, 8, generator, flag)
+            nights.append(night("%d alone" % rule, stock, around(stock, make(stock))))
+    return nights
+
+
+def order_nights(generator):
+    """Each rule with every choice of later rules also broken."""
+    nights = []
+    for depth, d, flag in ((8, 31, 0), (10, 19, 0), (8, 18, 1)):
+        for rule, times in ((7, 2), (8, 3), (9, 5), (10, 8)):
+            stock = plain_stock(depth, d, 12, 2, 8, generator, flag)
+            refused = []
+            for others in range(1, 12 - rule):
+                for later in combinations(range(rule + 1, 12), others):
+                    refused += [stock.breaking((rule,) + later, generator)
+                                for _ in range(times)]
+            nights.append(night("%d before later rules" % rule, stock,
+                                around(stock, refused)))
+    return nights
+
+
+def outside_nights(generator):
+    """Bad samples and the largest good ones: outside its row pairs none matters."""
+    nights = []
+    for depth, d, flag in ((8, 25, 0), (10, 15, 0), (10, 30, 1)):
+        stock = plain_stock(depth, d, 10, 4, 8, generator, flag)
+        inside = [at for k in (1, 2) for _, at in row_pair_samples(stock.plan, k)]
+        base, enhancement = (
+            stock.add([value if at in inside else 65535 - at
+                       for at, value in enumerate(stock.runs[place])])
+            for place in (BASE, ENHANCEMENT))
+        largest = stock.add([(1 << depth) - 1] * len(stock.runs[BASE]))
+        nights.append(night("bad sample outside", stock, [
+            stock.job(1, 1, base=base, enhancement=enhancement),
+            stock.job(0, 2, base=base), stock.job(2, 2, enhancement=enhancement),
+            stock.job(1, 2, base=base, enhancement=enhancement),
+            stock.job(2, 1, base=largest, enhancement=largest)]))
+    return nights
+
+
+def far_nights(generator):
+    """First and count at 65,535 and near the end of small and tall pictures."""
+    nights = []
+    for width, height in ((16, 2), (2, 16), (2, 32)):
+        stock = plain_stock(10, 23, 12, width, height, generator)
+        rows = stock.rows
+        refused = [stock.job(first, count, base=OTHER) for first, count in beyond(rows)]
+        nights.append(night("rows at 65,535", stock,
+                            refused + [stock.job(rows - 1, 1), stock.job(0, 65535),
+                                       stock.job(65535, 65535)]))
+    return nights
+
+
+# Openings ---------------------------------------------------------------------
+
+def opening_nights(generator):
+    """Accepted: any ticket is handed back, every mark is cleared."""
+    nights = []
+    tickets = (0, 1, 65536, 1 << 31, TICKETS - 1, 0x01020304)
+    shapes = ((2, 2), (2, 8), (4, 6), (2, 32), (8, 8), (4, 12))
+    for i, (ticket, (width, height)) in enumerate(zip(tickets, shapes)):
+        stock = plain_stock(DEPTHS[i % 2], 24, 12, width, height, generator)
+        stock.ticket = ticket
+        jobs = [stock.job(0, 1), stock.job(0, 1, ticket=ticket ^ 1),
+                stock.job(stock.rows - 1, 1)]
+        opened = night("opening accepted", stock, jobs)
+        nights.append(opened)
+        nights.append(opened._replace(marks=[1] * stock.rows, jobs=jobs[:1]))
+        nights.append(opened._replace(marks=[255 - k for k in range(stock.rows)],
+                                      jobs=[]))
+    return nights
+
+
+def refused_opening_nights(generator):
+    """Rules 7 and 9 at an opening, and jobs that find the memory as it was."""
+    nights = []
+    for depth, marks in ((10, [0, 7, 255, 0]), (8, [2, 1, 128, 255]), (10, [0, 0, 0, 0]),
+                         (8, [1, 1, 0, 1])):
+        stock = plain_stock(depth, 20, 12, 2, 8, generator)
+        jobs = [stock.job(1, 1), stock.breaking((11,), generator), stock.job(1, 1),
+                stock.job(0, 1, plan=ZERO_PLAN), stock.job(3, 1)]
+        spoilt = night("opening refused 7", stock, jobs)
+        spoilt = spoilt._replace(marks=marks, opening=ZERO_PLAN)
+        nights.append(spoilt)
+        nights.append(spoilt._replace(jobs=jobs + [stock.job(0, 2), stock.job(2, 1)]))
+        nights.append(spoilt._replace(jobs=[]))
+    for size in (0, 1, 3, 5, 8, 24, LARGEST_MARKS):
+        stock = plain_stock(10, 20, 12, 2, 8, generator)
+        jobs = [stock.job(1, 1)] + misfit_jobs(stock, generator)
+        wrong = night("opening refused 9", stock, jobs)._replace(marks=spoiled(size))
+        nights.append(wrong)
+        nights.append(wrong._replace(kind="opening 7 before 9", opening=ZERO_PLAN))
+    return nights
+
+
+def misfit_jobs(stock, generator):
+    """For a memory that does not fit: 9 comes before 10 and 11, after 7 and 8."""
+    return [stock.breaking(rules, generator)
+            for rules in ((), (), (10,), (10,), (11,), (10, 11), (8,), (7,), (8, 10),
+                          (7, 8), (9,), (9, 10, 11), (8, 11), (7, 11))]
+
+
+def misfit_output_nights(generator):
+    """An opening does not look at the output; every job then does."""
+    nights = []
+    for size in (0, 1, 4, 23, 25, 48, LARGEST_RUN):
+        stock = plain_stock(8, 20, 10, 2, 8, generator)
+        jobs = [stock.job(0, 1)] + misfit_jobs(stock, generator)
+        wrong = night("output misfits", stock, jobs)._replace(output_size=size)
+        nights.append(wrong)
+    stock = plain_stock(8, 20, 10, 2, 8, generator)
+    jobs = misfit_jobs(stock, generator)
+    both = night("output misfits", stock, jobs)._replace(output_size=0, marks=[])
+    empty = stock.add([])
+    nothing = [stock.job(first, count, base=empty, enhancement=NO_RUN, plan=plan)
+               for first, count in ((0, 0), (0, 1)) for plan in (ZERO_PLAN, BLOCK_PLAN)]
+    nights.append(both._replace(jobs=jobs + nothing))
+    nights.append(both._replace(jobs=nothing, opening=ZERO_PLAN))
+    return nights
+
+
+def other_size_nights(generator):
+    """A memory that fits a picture of another shape than the plan's."""
+    nights = []
+    for shape, (width, height) in (((4, 4), (2, 8)), ((2, 8), (4, 4)), ((4, 4), (8, 4)),
+                                   ((8, 4), (4, 4)), ((2, 4), (8, 8)), ((8, 8), (2, 2)),
+                                   ((2, 6), (2, 4)), ((10, 6), (10, 4)), ((2, 8), (8, 8)),
+                                   ((8, 8), (2, 8))):
+        stock = plain_stock(10, 21, 12, shape[0], shape[1], generator)
+        size, rows = 3 * width * height // 2, height // 2
+        theirs = stock.add(random_run(size, 10, generator))
+        jobs = [stock.job(0, 1), stock.job(0, 1, base=theirs),
+                stock.job(0, 1, base=theirs, enhancement=theirs),
+                stock.job(0, 1, enhancement=NO_RUN), stock.job(0, rows),
+                stock.job(rows, 1), stock.job(0, 1, plan=ZERO_PLAN),
+                stock.job(0, 1, ticket=stock.ticket ^ 4)]
+        other = night("other sizes", stock, jobs)
+        other = other._replace(output_size=size, marks=spoiled(rows))
+        nights.append(other)
+        nights.append(other._replace(opening=ZERO_PLAN))
+    return nights
+
+
+# Accepted jobs outside the premises of demand 3 -------------------------------
+
+def flag_nights(generator):
+    """Flag 1: the enhancement is ignored, whatever its length and samples."""
+    nights = []
+    for depth, d in ((8, 28), (10, 16)):
+        stock = plain_stock(depth, d, 12, 4, 8, generator, 1)
+        one = stock.add([65535])
+        empty = stock.add([])
+        ignored = (WILD, MISFIT, one, empty, NO_RUN, BAD, OTHER, ENHANCEMENT)
+        nights.append(night("flag 1, enhancement ignored", stock, [
+            stock.job(i % 3, 1, enhancement=place) for i, place in enumerate(ignored)]))
+        nights.append(night("flag 1, enhancement ignored", stock, [
+            stock.job(0, 2, enhancement=WILD), stock.job(0, 2, enhancement=NO_RUN),
+            stock.job(2, 1, enhancement=MISFIT, base=BAD if stock.bad != 2 else OTHER),
+            stock.job(0, 4, enhancement=WILD, base=BAD),
+            stock.job(0, 4, enhancement=WILD, base=WILD),
+            stock.job(3, 1, enhancement=BAD)]))
+    return nights
+
+
+def later_nights(generator):
+    """Enhancement now absent, now present, or other samples: the later job's stand."""
+    absent = ((0, 2, BASE, ENHANCEMENT), (1, 2, BASE, NO_RUN), (3, 1, BASE, NO_RUN),
+              (2, 1, BASE, ENHANCEMENT))
+    early = ((0, 4, BASE, NO_RUN), (0, 1, BASE, ENHANCEMENT), (2, 2, BASE, ENHANCEMENT),
+             (3, 1, BASE, NO_RUN))
+    others = ((0, 3, BASE, ENHANCEMENT), (1, 1, OTHER, ENHANCEMENT),
+              (2, 1, BASE, OTHER), (2, 1, OTHER, BASE), (0, 1, OTHER, NO_RUN))
+    refused = ((0, 2, BASE, ENHANCEMENT), (0, 2, BASE, MISFIT), (1, 1, BASE, NO_RUN),
+               (0, 2, WILD, ENHANCEMENT), (0, 4, BAD, OTHER), (3, 1, OTHER, NO_RUN))
+    nights = []
+    for depth, d in ((8, 22), (10, 29)):
+        for jobs in (absent, early, others, refused):
+            stock = plain_stock(depth, d, 12, 4, 8, generator)
+            nights.append(night("later samples stand", stock, [
+                stock.job(first, count, base=base, enhancement=enhancement)
+                for first, count, base, enhancement in jobs]))
+    return nights
+
+
+def ticket_nights(generator):
+    """Only a job's two tickets are compared: no call keeps the opening's."""
+    stock = plain_stock(10, 27, 10, 4, 8, generator)
+    far = stock.ticket ^ 0x80000001
+    jobs = [stock.job(first, 1, open_ticket=given, ticket=own)
+            for first, given, own in ((0, far, far), (1, far, stock.ticket),
+                                      (1, stock.ticket, far), (2, 0, 0),
+                                      (3, 0, stock.ticket),
+                                      (2, TICKETS - 1, TICKETS - 1))]
+    equal = night("equal tickets of another picture", stock, jobs)
+    return [equal, equal._replace(opening=ZERO_PLAN)]
+
+
+# Random nights ----------------------------------------------------------------
+
+WIDTHS = {1: (2, 8, 16, 32), 2: (2, 6, 8, 16), 3: (2, 4, 10), 4: (2, 4, 8), 5: (2, 4, 6),
+          6: (2, 4), 7: (2, 4), 8: (2, 4)}      # by H/2; 3WH/2 is at most 96
+
+
+def random_stock(rows, generator):
+    """A random plan and picture; in some nights a row pair has a bad sample."""
+    shapes = [(width, 2 * rows) for width in WIDTHS[rows]]
+    plan = random_plan(shapes, generator)
+    base, enhancement = random_picture(plan, generator)
+    if generator.one_in(6):
+        enhancement = []
+    return Stock(plan, generator, base, enhancement)
+
+
+def random_part(allowed, generator):
+    """(first, count) of neighbouring row pairs that are all allowed."""
+    first = generator.choice(sorted(allowed))
+    count = 1
+    while first + count in allowed and not generator.one_in(3):
+        count += 1
+    return first, count
+
+
+def cover(allowed, generator):
+    """Parts that name every allowed row pair; they may overlap."""
+    parts, missing = [], set(allowed)
+    while missing:
+        first = generator.choice(sorted(missing))
+        count = 1
+        while first + count in allowed and generator.one_in(3):
+            count += 1
+        parts.append((first, count))
+        missing -= set(range(first, first + count))
+    return parts
+
+
+def shuffled(items, generator):
+    items = list(items)
+    for i in range(len(items) - 1, 0, -1):
+        j = generator.below(i + 1)
+        items[i], items[j] = items[j], items[i]
+    return items
+
+
+def random_rules(generator):
+    """One rule to break, at times two or three."""
+    rules = {generator.between(7, 11)}
+    while generator.one_in(3):
+        rules.add(generator.between(7, 11))
+    return tuple(sorted(rules))
+
+
+def mixed_jobs(stock, allowed, number, generator):
+    """Jobs that cover the allowed row pairs, replays, and refused ones between."""
+    parts = cover(allowed, generator)
+    jobs = [stock.job(first, count) for first, count in parts]
+    while len(jobs) < number:
+        kind = generator.below(5)
+        if kind < 2 or not allowed:
+            jobs.append(stock.breaking(random_rules(generator), generator))
+        elif kind < 4:
+            jobs.append(stock.job(*generator.choice(parts)))
+        else:
+            jobs.append(stock.job(*random_part(allowed, generator)))
+    return shuffled(jobs, generator)
+
+
+def ignoring(stock, jobs, generator):
+    """With flag 1, or without an enhancement, say so in several ways."""
+    if stock.plan.disable_residual_flag:
+        places = (ENHANCEMENT, NO_RUN, OTHER, BAD, MISFIT, WILD)
+    elif not stock.runs[ENHANCEMENT]:
+        places = (ENHANCEMENT, NO_RUN)
+    else:
+        return jobs
+    return [job._replace(enhancement=generator.choice(places))
+            if job.enhancement in (ENHANCEMENT, NO_RUN) else job for job in jobs]
+
+
+def random_night(at, generator):
+    """Within the premises of demand 3; two of three nights end complete.
+
+    One row pair is named late only, so that most of the night has rows left.
+    """
+    rows = 1 + at % 8
+    stock = random_stock(rows, generator)
+    allowed = set(range(rows))
+    late = set()
+    if at // 8 % 3 == 2:
+        for k in range(generator.between(1, max(1, rows // 3))):
+            allowed.discard(generator.below(rows))
+    elif rows > 1:
+        late = {generator.below(rows)}
+    if allowed != set(range(rows)) and generator.one_in(2):
+        spoil_row_pair(stock, min(set(range(rows)) - allowed), generator)
+    number = generator.between(8, 30)
+    early = number * 3 // 4 if late else number
+    jobs = mixed_jobs(stock, allowed - late, early, generator)
+    if late:
+        last = mixed_jobs(stock, late, number - early, generator)
+        jobs += [job if generator.one_in(3) else widened(job, rows, generator)
+                 for job in last]
+    made = night("random", stock, ignoring(stock, jobs, generator))
+    return made._replace(marks=[generator.below(256) for _ in range(rows)])
+
+
+def spoil_row_pair(stock, k, generator):
+    """A bad base sample in row pair k: no job that names it is accepted."""
+    at = generator.choice([at for _, at in row_pair_samples(stock.plan, k)])
+    stock.runs[BASE] = replaced(stock.runs[BASE], at,
+                                (1 << stock.plan.BL_bit_depth) + generator.below(64))
+
+
+def widened(job, rows, generator):
+    """A job of one row pair made longer within the picture."""
+    if job.count != 1 or job.first >= rows:
+        return job
+    first = generator.between(0, job.first)
+    return job._replace(first=first,
+                        count=generator.between(job.first - first + 1, rows - first))
+
+
+def random_nights(generator, number):
+    return [random_night(at, generator) for at in range(number)]
+
+
+def free_night(at, generator):
+    """Random, outside the premises: any samples and tickets, any opening."""
+    rows = 1 + (at * 3 + 2) % 8
+    stock = random_stock(rows, generator)
+    jobs = []
+    for job in mixed_jobs(stock, set(range(rows)), generator.between(8, 20), generator):
+        base = generator.choice((BASE, OTHER, BAD))
+        enhancement = generator.choice((ENHANCEMENT, OTHER, NO_RUN, NO_RUN))
+        if generator.one_in(2) and job.base == BASE:
+            job = job._replace(base=base, enhancement=enhancement)
+        if generator.one_in(4):
+            own = generator.below(TICKETS)
+            job = job._replace(open_ticket=own, ticket=own)
+        jobs.append(job)
+    free = night("random, outside the premises", stock, jobs)
+    marks = [generator.choice((0, 0, 1, 2, 255)) for _ in range(rows)]
+    opening = ZERO_PLAN if generator.one_in(2) else BLOCK_PLAN
+    return free._replace(marks=marks, opening=opening)
+
+
+def free_nights(generator, number):
+    return [free_night(at, generator) for at in range(number)]
+
+
+def trimmed(night):
+    """The same night without the runs that no job names."""
+    named = sorted({place for job in night.jobs for place in (job.base, job.enhancement)
+                    if place != NO_RUN})
+    places = {place: at for at, place in enumerate(named)}
+    places[NO_RUN] = NO_RUN
+    jobs = [job._replace(base=places[job.base], enhancement=places[job.enhancement])
+            for job in night.jobs]
+    return night._replace(runs=[night.runs[place] for place in named], jobs=jobs)
+
+
+def all_nights():
+    nights = (
+        worked_nights(Generator(301))
+        + replay_nights(Generator(302))
+        + alone_nights(Generator(303))
+        + order_nights(Generator(304))
+        + outside_nights(Generator(305))
+        + far_nights(Generator(306))
+        + opening_nights(Generator(307))
+        + refused_opening_nights(Generator(308))
+        + misfit_output_nights(Generator(309))
+        + other_size_nights(Generator(310))
+        + flag_nights(Generator(311))
+        + later_nights(Generator(312))
+        + ticket_nights(Generator(313))
+        + random_nights(Generator(314), 64)
+        + free_nights(Generator(315), 16))
+    return [trimmed(one) for one in nights]
