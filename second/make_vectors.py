@@ -1,7 +1,10 @@
 """Makes the vectors, or checks the stored ones.
 
-    python3 make_vectors.py OUTDIR            writes the six files
+    python3 make_vectors.py OUTDIR            writes the files
     python3 make_vectors.py --check OUTDIR    exit 1 if one differs or is missing
+
+OUTDIR/compose_file/data has the example picture, from which what compose_file and
+inspect have to say is worked out.
 """
 
 import os
@@ -13,7 +16,10 @@ import answers
 import block
 import block_cases
 import composer
+import inspect_block
+import inspect_cases
 import night_cases
+import picture
 import sample_cases
 
 
@@ -65,7 +71,29 @@ def text(lines):
     return "".join(line + "\n" for line in lines).encode("ascii")
 
 
-def make():
+def example_files(outdir):
+    """What compose_file has to say of the example picture."""
+    data = os.path.join(outdir, "compose_file", "data")
+    names = ["block", "base.yuv", "enhancement.yuv", "hdr.yuv"]
+    _, lines = picture.compose_file(*(os.path.join(data, name) for name in names[:3]), names[3])
+    return {os.path.join("compose_file", "args"): text(names),
+            os.path.join("compose_file", "stdout"): text(lines)}
+
+
+def inspect_files(outdir):
+    """The blocks that inspect is shown, and what it has to say of them."""
+    good = picture.contents(os.path.join(outdir, "compose_file", "data", "block"))
+    files, lines = {}, []
+    blocks = inspect_cases.all_blocks(good)
+    for name, data in blocks:
+        files[os.path.join("inspect", "data", name)] = data
+        lines += inspect_block.inspect(name, data)
+    files[os.path.join("inspect", "args")] = text([name for name, _ in blocks])
+    files[os.path.join("inspect", "stdout")] = text(lines)
+    return files
+
+
+def make(outdir):
     """({path: bytes}, summary lines).  The answers are worked out from stdin."""
     samples = sample_cases.all_cases()
     sample_stdin = sample_stream(samples)
@@ -82,7 +110,8 @@ def make():
         os.path.join("block_vectors", "stdin"): block_stdin,
         os.path.join("block_vectors", "stdout"): text(block_lines),
         os.path.join("night_vectors", "stdin"): night_stdin,
-        os.path.join("night_vectors", "stdout"): text(night_lines)}
+        os.path.join("night_vectors", "stdout"): text(night_lines),
+        **example_files(outdir), **inspect_files(outdir)}
     summary = (sample_summary(samples, sample_lines)
                + table("block_vectors", reads, block_lines)
                + night_summary(nights, night_lines))
@@ -147,7 +176,7 @@ def counts(given):
 
 
 def write(outdir):
-    files, summary = make()
+    files, summary = make(outdir)
     for path, data in files.items():
         path = os.path.join(outdir, path)
         os.makedirs(os.path.dirname(path), exist_ok=True)
@@ -158,7 +187,7 @@ def write(outdir):
 
 def check(outdir):
     """A message for the first stored file that is not as made, else None."""
-    files, _ = make()
+    files, _ = make(outdir)
     for path, data in files.items():
         path = os.path.join(outdir, path)
         if not os.path.isfile(path):
@@ -176,7 +205,7 @@ def main():
         if fault is not None:
             print("make_vectors: " + fault)
             sys.exit(1)
-        print("make_vectors: the six stored files are as the second program gives them")
+        print("make_vectors: the stored files are as the second program gives them")
     elif len(arguments) == 1 and not arguments[0].startswith("-"):
         write(arguments[0])
     else:

@@ -444,7 +444,7 @@ WIDTHS = {1: (2, 8, 16, 32), 2: (2, 6, 8, 16), 3: (2, 4, 10), 4: (2, 4, 8), 5: (
 
 
 def random_stock(rows, generator):
-    """A random plan and picture; in some nights a row pair has a bad sample."""
+    """A random plan and picture; at times there is no enhancement."""
     shapes = [(width, 2 * rows) for width in WIDTHS[rows]]
     plan = random_plan(shapes, generator)
     base, enhancement = random_picture(plan, generator)
@@ -521,14 +521,16 @@ def ignoring(stock, jobs, generator):
 def random_night(at, generator):
     """Within the premises of demand 3; two of three nights end complete.
 
-    One row pair is named late only, so that most of the night has rows left.
+    In these one row pair is named late only, so that most of the night has rows
+    left.  In the others some row pairs are never named, at times because one has
+    a bad base sample.
     """
     rows = 1 + at % 8
     stock = random_stock(rows, generator)
     allowed = set(range(rows))
     late = set()
     if at // 8 % 3 == 2:
-        for k in range(generator.between(1, max(1, rows // 3))):
+        for _ in range(generator.between(1, max(1, rows // 3))):
             allowed.discard(generator.below(rows))
     elif rows > 1:
         late = {generator.below(rows)}

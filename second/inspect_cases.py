@@ -1,0 +1,38 @@
+"""The blocks that the gate shows to inspect: one that is read, and some that must be refused."""
+
+import struct
+
+import block
+
+
+def first_piece(good, section):
+    """Where the first piece's mapping_idc is: after the number of pivots and the pivots."""
+    return section + 1 + 2 * (good[section] + 2)
+
+
+def all_blocks(good):
+    """(name, bytes) of each; `good` is a block of version 1 that is read."""
+    t = len(good) - block.TRAILER_BYTES
+    a, d0, d1, d2 = struct.unpack_from(">4H", good, t)
+    header, y, cb = t - a, t - d0, t - d1
+    idc, chroma_idc = first_piece(good, y), first_piece(good, cb)
+
+    def edited(place, value):
+        return good[:place] + bytes([value]) + good[place + 1:]
+
+    left_over = (good[:cb] + b"\0" + good[cb:t]
+                 + struct.pack(">4H", a + 1, d0 + 1, d1, d2) + good[t + 8:])
+    return [
+        ("block", good),
+        ("cut_off", good[-11:]),
+        ("no_trailer", edited(t + 9, 2)),
+        ("left_over", left_over),
+        ("profile_two", edited(header, 2)),
+        ("denominator_33", edited(header + 2, 33)),
+        ("depths_differ", edited(header + 4, 0)),
+        ("luminances", good[:header + 12] + bytes(2) + good[header + 14:]),
+        ("mapping_two", edited(idc, 2)),
+        ("coefficient_64", edited(idc + 2, 64)),
+        ("mmr", edited(chroma_idc, 1)),
+        ("mmr_for_luma", edited(idc, 1)),
+    ]
