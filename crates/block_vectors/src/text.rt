@@ -1,4 +1,5 @@
 // Text in a line of bytes. What the line has no room for is left out.
+use saying::size;
 
 pub(crate) fn put(line: &mut [u8; 8192], at: usize, b: u8) -> usize {
     if at < 8192 {
@@ -43,15 +44,6 @@ pub(crate) fn put_place(
         end = put(line, end, b'-');
     }
     put_number(line, end, v)
-}
-
-// The absolute value. -1 - z does not wrap, where 0 - z could.
-fn size(z: i64) -> u64 {
-    if z < 0 {
-        let less_one = -1 - z;
-        return (less_one as u64) + 1;
-    }
-    z as u64
 }
 
 pub(crate) fn put_signed(line: &mut [u8; 8192], at: usize, index: usize, z: i64) -> usize {
