@@ -1,4 +1,4 @@
-/* The composing call in C: the plan's layout, and two functions of one meaning. */
+/* A row job in C: the plan's layout, and two functions of one meaning. */
 #include <stddef.h>
 #include <stdint.h>
 
@@ -30,11 +30,12 @@ typedef struct {
     Component y, cb, cr;
 } Plan;
 
-/* The proved code: 0, or the refusal's number. A slice is a pointer, then a length. */
-uint8_t speed_compose(Plan plan, size_t first, size_t count, const uint16_t *base, size_t base_len,
-                      const uint16_t *enhancement, size_t enhancement_len, uint16_t *output, size_t output_len);
+/* The proved row job: 0, or the refusal's number. A slice is a pointer, then a length. */
+uint8_t speed_job(Plan plan, uint32_t open_ticket, uint32_t ticket, size_t first, size_t count,
+                  const uint16_t *base, size_t base_len, const uint16_t *enhancement, size_t enhancement_len,
+                  uint16_t *output, size_t output_len, uint8_t *marks, size_t marks_len);
 
-/* Clause-by-clause C, once a compiler. */
+/* Clause-by-clause C, once a compiler. It has no tickets and no marks, so the proved side does a little more. */
 #define CLAUSE(name)                                                                                     \
     uint8_t name(const Plan *plan, size_t first, size_t count, const uint16_t *base, size_t base_len,     \
                  const uint16_t *enhancement, size_t enhancement_len, uint16_t *output, size_t output_len)

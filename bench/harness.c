@@ -10,6 +10,7 @@
 enum { COLUMNS = 1920, PAIRS = 1080, SIZE = 6 * COLUMNS * PAIRS, RUNS = 7 };
 
 static uint16_t base[SIZE], enhancement[SIZE], proved[SIZE], plain[SIZE];
+static uint8_t marks[PAIRS];
 
 static uint64_t seed = 20261115;
 static uint32_t next_random(void)
@@ -67,7 +68,7 @@ typedef enum { PROVED, GCC, CLANG, COPY, WAYS } Way;
 static uint8_t job(Way way, const Plan *p, size_t first, size_t count)
 {
     switch (way) {
-    case PROVED: return speed_compose(*p, first, count, base, SIZE, enhancement, SIZE, proved, SIZE);
+    case PROVED: return speed_job(*p, 1, 1, first, count, base, SIZE, enhancement, SIZE, proved, SIZE, marks, PAIRS);
     case GCC: return clause_gcc(p, first, count, base, SIZE, enhancement, SIZE, plain, SIZE);
     case CLANG: return clause_clang(p, first, count, base, SIZE, enhancement, SIZE, plain, SIZE);
     default: memcpy(plain + 6 * COLUMNS * first, base + 6 * COLUMNS * first, 6 * COLUMNS * count * 2); return 0;
@@ -96,6 +97,7 @@ static void row(const char *samples, const char *jobs, int pieces, int enhanced,
     Plan p = plan_of(pieces, enhanced);
     double times[WAYS][RUNS], median[WAYS];
     memset(proved, 0xff, sizeof proved);
+    memset(marks, 0, sizeof marks);
     for (Way w = PROVED; w <= CLANG; w++) {
         memset(plain, 0xaa, sizeof plain);
         picture(w, &p, step);
