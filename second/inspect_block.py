@@ -15,7 +15,7 @@ RULES = {
     2: "the trailer is none of version 1: this is no composing block, or one of a later version",
     3: "a field runs past its section, or bytes are left over: the block was cut or joined wrongly",
     4: "a field of the header is outside its range: a picture or a profile that this composer does not do",
-    5: "a field of a section is outside its range: ask the block's maker",
+    5: "a field of a section is outside its range (docs/RULES.md): ask the block's maker",
     6: "mapping_idc is 1: MMR mapping is not built yet",
 }
 

@@ -1,9 +1,7 @@
 // Prints every field of composing blocks, or why a block is refused: inspect BLOCK...
 mod decimal; // numbers with a fraction
 mod show; // a plan's fields, under their names
-mod fault; // what is wrong in a header
 
-use fault::say_fault;
 use saying::load_bytes;
 use saying::say;
 use saying::say_argument;
@@ -15,9 +13,6 @@ fn inspect_block(bytes: &[u8]) {
     let reading = block::read(bytes);
     if reading.number != 0 {
         say_refusal(reading.number, reading.place, bytes);
-        if reading.number == 4 {
-            say_fault(bytes, reading.place);
-        }
         return;
     }
     let plan = reading.plan;

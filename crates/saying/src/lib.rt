@@ -1,4 +1,7 @@
 // What the programs over a block have in common: words for people, on standard output, and files that arguments name.
+mod fault; // what is wrong in a header
+
+use fault::say_fault;
 ghost use Prim.Native.Nat.{_^_, _≤_};
 ghost use Rattle.io.specs.Counts.{Counts};
 
@@ -64,7 +67,9 @@ pub fn say_rule(number: u8) {
         4 => say(
             b"a field of the header is outside its range: a picture or a profile that this composer does not do",
         ),
-        5 => say(b"a field of a section is outside its range: ask the block's maker"),
+        5 => say(
+            b"a field of a section is outside its range (docs/RULES.md): ask the block's maker",
+        ),
         6 => say(b"mapping_idc is 1: MMR mapping is not built yet"),
         7 => say(b"the plan breaks a range"),
         8 => say(b"the job's ticket is not the opened picture's"),
@@ -99,4 +104,7 @@ pub fn say_refusal(number: u8, place: usize, bytes: &[u8]) {
     say(b": ");
     say_rule(number);
     say(b"\n");
+    if number == 4 {
+        say_fault(bytes, place);
+    }
 }

@@ -8,14 +8,8 @@ read-requires c κs = search needs
 say-refusal-requires : tie.Need-say-refusal-requires
 say-refusal-requires c κs = search needs
 
-say-fault-requires : tie.Need-say-fault-requires
-say-fault-requires c κs = search needs
-
 returns : tie.Need-returns
 returns c = search needs
-
-returns-2 : tie.Need-returns-2
-returns-2 c = search needs
 
 show-plan-requires : tie.Need-show-plan-requires
 show-plan-requires c κs =
@@ -23,8 +17,8 @@ show-plan-requires c κs =
     let e : tie.Else1 = search needs in
     r .read .ensures .1 .passes (e .if1 .left)
 
-returns-3 : tie.Need-returns-3
-returns-3 c = search needs
+returns-2 : tie.Need-returns-2
+returns-2 c = search needs
 
 pub inspect-block-spec : {M : Type 1} → statement M
 inspect-block-spec =
@@ -32,8 +26,6 @@ inspect-block-spec =
     (tie.spec
     read-requires
     say-refusal-requires
-    say-fault-requires
     returns
-    returns-2
     show-plan-requires
-    returns-3)
+    returns-2)

@@ -1,6 +1,6 @@
 // Which field of a refused header is outside its column (docs/RULES.md, "Header"), what was found there and what is allowed.
-use saying::say;
-use saying::say_number;
+use crate::say;
+use crate::say_number;
 ghost use Prim.Native.Nat.{_^_, _<_};
 
 fn wide(b: u8) -> usize
