@@ -71,7 +71,7 @@ job-answer j output marks =
     (Done (tally is-waiting (marks-after j output marks)))
     (Refused (job-refusal j (length output) (length marks)))
 
--- the house rules' number and rows left for each case; complete is exactly rows left 0
+-- the house rules' number for each case: 0 and the rows left, or the number alone; complete is exactly rows left 0
 abbrev pub answer-number : Answer → ℕ
 answer-number (Done left) = 0
 answer-number (Refused k) = k
