@@ -15,7 +15,7 @@ RULES = {
     2: "the trailer is none of version 1: this is no composing block, or one of a later version",
     3: "a field runs past its section, or bytes are left over: the block was cut or joined wrongly",
     4: "a field of the header is outside its range: a picture or a profile that this composer does not do",
-    5: "a field of a section is outside its range (docs/RULES.md): ask the block's maker",
+    5: "a field of a section is outside its range: the block's maker has a fault",
     6: "mapping_idc is 1: MMR mapping is not built yet",
 }
 
@@ -98,22 +98,67 @@ def header_fault(head):
             return "%s, allowed %s" % (found, allowed)
 
 
-def refusal(number, data):
+def section_fields(section, cmp, plan):
+    """(offset, bytes, name, allowed) of each field in order, as far as the section's own numbers say where they are."""
+    sample = "less than %d" % (1 << plan.BL_bit_depth)
+    fraction = "less than %d" % (1 << plan.coefficient_log2_denom)
+    at = 0
+
+    def field(size, name, allowed, *indices):
+        nonlocal at
+        at += size
+        return at - size, size, name + "".join("[%d]" % i for i in (cmp,) + indices), allowed
+
+    n = section[0]
+    yield field(1, "num_pivots_minus2", "0 to 15")
+    for i in range(n + 2):
+        yield field(2, "pred_pivot_value", sample, i)
+    for piece in range(n + 1):
+        yield field(1, "mapping_idc", "0", piece)
+        order = section[at]
+        yield field(1, "poly_order_minus1", "0 to 1", piece)
+        for i in range(order + 2):
+            yield field(1, "poly_coef_int", "-64 to 63", piece, i)
+            yield field(4, "poly_coef", fraction, piece, i)
+    yield field(2, "nlq_offset", sample)
+    for name in ("hdr_in_max", "linear_deadzone_slope", "linear_deadzone_threshold"):
+        yield field(1, name + "_int", "0 to 1")
+        yield field(4, name, fraction)
+
+
+def section_fault(section, cmp, plan, place):
+    for at, size, name, allowed in section_fields(section, cmp, plan):
+        if at == place:
+            value = int.from_bytes(section[at:at + size], "big", signed=name.startswith("poly_coef_int"))
+            return "%s is %d, allowed %s" % (name, value, allowed)
+
+
+def fault(number, data):
+    """Where the failure was met (None for rule 1), and what was found there and what is allowed."""
     t = len(data) - block.TRAILER_BYTES
-    place = None
+    if t < 0:
+        return None, "%d bytes, allowed 12 or more" % len(data)
+    A, D0, D1, D2, version, zero = struct.unpack_from(">6H", data, t)
+    if number == 1:
+        return None, "A is %d, allowed at most %d" % (A, t)
     if number == 2:
-        place = t
-    elif number != 1:
-        A, D0, D1, D2 = struct.unpack_from(">4H", data, t)
-        if number == 4:
-            place = t - A
-        else:
-            reached = len(Noted.sections) - 1
-            place = t - (D0, D1, D2)[reached] + Noted.sections[-1].last
-    where = "" if place is None else " at byte %d, which is %d" % (place, data[place])
-    yield "refused %d%s: %s" % (number, where, RULES[number])
+        return t, ("A is %d, D0 is %d, D1 is %d, D2 is %d, version is %d, zero is %d, "
+                   "allowed A = D0 + 24, D0 > D1 > D2 > 0, version 1, zero 0" % (A, D0, D1, D2, version, zero))
     if number == 4:
-        yield header_fault(data[place:place + block.HEADER_BYTES])
+        return t - A, header_fault(data[t - A:t - D0])
+    cmp = len(Noted.sections) - 1
+    begin, end = (t - D0, t - D1, t - D2, t)[cmp:cmp + 2]
+    place = Noted.sections[-1].last
+    if number == 3:
+        return begin + place, "section %d is bytes %d up to %d" % (cmp, begin, end)
+    plan = block._read_header(data[t - A:t - D0])
+    return begin + place, section_fault(data[begin:end], cmp, plan, place)
+
+
+def refusal(number, data):
+    place, found = fault(number, data)
+    yield "refused %d%s: %s" % (number, "" if place is None else " at byte %d" % place, RULES[number])
+    yield found
 
 
 def inspect(name, data):

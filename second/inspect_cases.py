@@ -22,17 +22,31 @@ def all_blocks(good):
 
     left_over = (good[:cb] + b"\0" + good[cb:t]
                  + struct.pack(">4H", a + 1, d0 + 1, d1, d2) + good[t + 8:])
+    cut_section = (good[:cb - 1] + good[cb:t]
+                   + struct.pack(">4H", a - 1, d0 - 1, d1, d2) + good[t + 8:])
     return [
         ("block", good),
         ("cut_off", good[-11:]),
+        ("points_too_far", good[-40:]),
         ("no_trailer", edited(t + 9, 2)),
         ("left_over", left_over),
+        ("cut_section", cut_section),
         ("profile_two", edited(header, 2)),
         ("denominator_33", edited(header + 2, 33)),
         ("depths_differ", edited(header + 4, 0)),
         ("luminances", good[:header + 12] + bytes(2) + good[header + 14:]),
+        ("sixteen_pieces", edited(y, 16)),
+        ("pivot", edited(cb + 3, 4)),
         ("mapping_two", edited(idc, 2)),
+        ("order_two", edited(idc + 1, 2)),
         ("coefficient_64", edited(idc + 2, 64)),
+        ("coefficient_minus_65", edited(idc + 2, 191)),
+        ("fraction", edited(idc + 3, 255)),
         ("mmr", edited(chroma_idc, 1)),
         ("mmr_for_luma", edited(idc, 1)),
+        ("offset", edited(t - 17, 4)),
+        ("maximum", edited(t - 15, 2)),
+        ("slope", edited(t - 10, 2)),
+        ("slope_fraction", edited(t - 9, 255)),
+        ("threshold", edited(t - 5, 2)),
     ]

@@ -1,3 +1,3 @@
 pub mod Meaning
-pub mod Sampling
 pub mod Determined
+pub mod Samples

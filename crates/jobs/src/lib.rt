@@ -14,6 +14,7 @@ ghost use mathlib.Core.Path.{_≡_};
 ghost use lib.ListN.{length};
 ghost use Rattle.jobs.specs.Jobs.{job, job-answer, output-after, marks-after, answer-number, complete};
 ghost use Rattle.jobs.specs.Opening.{opening-answer, opening-marks, opened-number};
+ghost use Rattle.jobs.specs.Samples.{EverySample};
 
 // An opening hands its ticket back as the opened picture's, or is refused by a number.
 pub enum Opened {
@@ -106,3 +107,8 @@ pub fn compose_job(
     let left = waiting(marks);
     Answer::Done(left)
 }
+
+// Carries demand 2, so that the gate names it: what a job writes is the composing process of clause 5.4, sample by sample.
+pub fn every_sample()
+    ensures { λ _. ⌜ EverySample ⌝ }
+{}

@@ -15,10 +15,10 @@ use Rattle.plan.specs.Refusals.{rule, first-met}
 use Rattle.compose.specs.Picture.{pair-at}
 use Rattle.compose.specs.Composing.{composed-at}
 use Rattle.jobs.specs.Opening.{every-pair, waiting, opening-refusal, opening-accepted, opening-marks}
-use Rattle.jobs.specs.Jobs.{Job, accepted, names, sample, done, is-waiting, output-after, marks-after, job-answer}
+use Rattle.jobs.specs.Jobs.{Job, accepted, names, sample, done, is-waiting, output-after, marks-after, job-answer, complete}
 use Rattle.jobs.specs.declared.Answer.the-variants.{Done}
-use Rattle.jobs.proofs.Sampling.{same-sample}
-use Rattle.night.specs.Night.{Memory, step, run, opened, named, count-below, Keeps, AllKeep, none, more, StandbyNight}
+use Rattle.jobs.proofs.Samples.{same-sample}
+use Rattle.night.specs.Night.{Memory, step, run, opened, named, count-below, rows-left-after, Keeps, AllKeep, none, more, StandbyNight}
 use Rattle.night.proofs.Counting.{count-cong, left-waiting}
 
 -- an accepted opening found a mark for each row pair, and cleared them all
@@ -99,13 +99,7 @@ standby-night p base enhancement output marks js fits ks =
       composed = λ i l h. at i l ∙ ap (λ (u : Bool). cond u (composed-at p base enhancement i) (getD output i 0)) h;
       others = λ i l h. at i l ∙ ap (λ (u : Bool). cond u (composed-at p base enhancement i) (getD output i 0)) h;
       size = output-size;
-      rows-left = λ j k h.
-          answer-done j end a b output-size marks-size h
-          ∙ ap (λ (l : List ℕ). Done (tally is-waiting l)) (marks-step p base enhancement a b j end output-size marks-size ∙ ap (painted _ done) marks-are ∙ painted-over _ _ done _)
-          ∙ ap Done
-          (left-waiting _ marks
-          ∙ ap (count-below _) (opening-marked p b fits)
-          ∙ count-cong _ _ (p .header .pairs) (λ i l. ap not (sym (named-last a b js j i))));
+      rows-left = λ j k h. let is-done = done-with j k h in (is-done, ap complete is-done);
     }
   where
     a : ℕ
@@ -137,3 +131,12 @@ standby-night p base enhancement output marks js fits ks =
 
     at : (i : ℕ) → i < a → getD (end .output) i 0 ≡ cond (named a b js (pair-at (p .header) i)) (composed-at p base enhancement i) (getD output i 0)
     at i l = ap (λ (r : List ℕ). getD r i 0) output-is ∙ at-painted _ _ output i 0 l
+
+    done-with : (j : Job) → Keeps p base enhancement a b j → accepted j a b ≡ true → job-answer j (end .output) (end .marks) ≡ Done (rows-left-after p a b (js ++ (j ∷ [])))
+    done-with j k h =
+        answer-done j end a b output-size marks-size h
+        ∙ ap (λ (l : List ℕ). Done (tally is-waiting l)) (marks-step p base enhancement a b j end output-size marks-size ∙ ap (painted _ done) marks-are ∙ painted-over _ _ done _)
+        ∙ ap Done
+        (left-waiting _ marks
+        ∙ ap (count-below _) (opening-marked p b fits)
+        ∙ count-cong _ _ (p .header .pairs) (λ i l. ap not (sym (named-last a b js j i))))

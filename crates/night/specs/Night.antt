@@ -3,12 +3,13 @@ use mathlib.Core.Path.{_≡_}
 use mathlib.Core.Bool.{Bool, true, false, not, _&&_, _||_, cond}
 use mathlib.Core.List.{List, [], _∷_, _++_}
 use Prim.Native.Nat.{ℕ, zero, suc, _+_, _<_}
+use lib.Dec.{eqb}
 use lib.ListN.{length, getD}
 use Rattle.plan.specs.declared.Plan.{Plan}
 use Rattle.compose.specs.Picture.{pair-at}
 use Rattle.compose.specs.Composing.{composed-at}
 use Rattle.jobs.specs.Opening.{opening-accepted, opening-marks}
-use Rattle.jobs.specs.Jobs.{Job, accepted, names, output-after, marks-after, job-answer}
+use Rattle.jobs.specs.Jobs.{Job, accepted, names, output-after, marks-after, job-answer, complete}
 use Rattle.jobs.specs.declared.Answer.the-variants.{Done}
 
 -- the memory that jobs write, and what one job and then a sequence of jobs leaves in it
@@ -37,6 +38,10 @@ unfoldable pub count-below : (ℕ → Bool) → ℕ → ℕ
 count-below test zero = 0
 count-below test (suc n) = count-below test n + cond (test n) 1 0
 
+-- rows left: how many row pairs of the picture no accepted job of the sequence has named
+abbrev pub rows-left-after : Plan → ℕ → ℕ → List Job → ℕ
+rows-left-after p a b js = count-below (λ k. not (named a b js k)) (p .header .pairs)
+
 -- the premises on one job: if it is accepted, it got the opening's plan, the same base samples and, unless the flag disables
 -- it, the same enhancement samples. (The demand also has every job given the open ticket as the opening handed it back;
 -- the theorem holds without that.)
@@ -57,10 +62,12 @@ pub record StaysFinished (p : Plan) (base enhancement output marks : List ℕ) (
   pub others : (i : ℕ) → i < length output → named (length output) (length marks) js (pair-at (p .header) i) ≡ false → getD (run js (opened p output marks) .output) i 0 ≡ getD output i 0
   -- the output is as long as it was
   pub size : length (run js (opened p output marks) .output) ≡ length output
-  -- the next job, if it is accepted, answers the count of row pairs that no accepted job so far, itself included, has named
+  -- the next job, if it is accepted, answers the row pairs that no accepted job so far, itself included, has named, and says
+  -- "complete" exactly where there is none
   pub rows-left : (j : Job) → Keeps p base enhancement (length output) (length marks) j → accepted j (length output) (length marks) ≡ true →
-      job-answer j (run js (opened p output marks) .output) (run js (opened p output marks) .marks)
-      ≡ Done (count-below (λ k. not (named (length output) (length marks) (js ++ (j ∷ [])) k)) (p .header .pairs))
+      (let answer = job-answer j (run js (opened p output marks) .output) (run js (opened p output marks) .marks) in
+      let left = rows-left-after p (length output) (length marks) (js ++ (j ∷ [])) in
+      (answer ≡ Done left) × (complete answer ≡ eqb left 0))
 
 -- demand 3, of every plan, picture, memory and sequence of jobs
 abbrev pub StandbyNight : Type 0

@@ -1,10 +1,16 @@
 // Theorems on the calls of a night. Each function computes nothing: its promise is the theorem.
 ghost use Rattle.night.specs.Night.{StandbyNight};
+ghost use Rattle.night.specs.Calls.{AnyChainOfCalls};
 ghost use Rattle.night.specs.FourRows.{FourRows};
 
 // Demand 3, of every plan, picture, memory and sequence of jobs after an accepted opening.
 pub fn the_standby_night()
     ensures { λ _. ⌜ StandbyNight ⌝ }
+{}
+
+// The same of the calls themselves: whatever calls keep the promises of opening and job.
+pub fn any_chain_of_calls()
+    ensures { λ _. ⌜ AnyChainOfCalls ⌝ }
 {}
 
 // The house rules' case of a picture with H = 4.

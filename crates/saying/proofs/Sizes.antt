@@ -1,7 +1,7 @@
 -- The absolute value of an i64, and of one below 0 that value less one. Assumes nothing.
-use mathlib.Core.Path.{_≡_}
+use mathlib.Core.Path.{_≡_, refl, ap}
 use mathlib.Core.Bool.{true, false, true≢false}
-use Prim.Native.Nat.{ℕ, suc, _-_, _^_, _≤_, _<_}
+use Prim.Native.Nat.{ℕ, suc, _+_, _-_, _^_, _≤_, _<_}
 use native.Mathlib.Omega.{arith}
 use lib.Dec.{T}
 use lib.IntN.{ℤ, pos, negsuc, natAbs, _-ℤ_}
@@ -14,28 +14,29 @@ use borrow.Author.Tests.{ltb-true, le-ltb}
 record Less (z : ℤ) : Type 0 where
   n : ℕ
   is : negsuc 0 -ℤ z ≡ pos n
+  size : n + 1 ≡ natAbs z
   small : n < 2 ^ 63
 
 less : (z : ℤ) → SFits w64 z → ltZ z (pos 0) ≡ true → Less z
 less (pos n) f e = absurd (omega (arith, ltb-true n 0 e))
 less (negsuc n) f e =
     let h : 1 ≤ suc n = omega arith in
-    record { n = suc n - 1; is = rw (le-ltb (suc n) 1 h); small = omega (arith, f .sfits) }
+    record { n = suc n - 1; is = rw (le-ltb (suc n) 1 h); size = omega arith; small = omega (arith, f .sfits) }
 
 module _ (z : ℤ) (f : SFits w64 z) where
   pub negative : ltZ (toZ w64 (ofZ w64 z)) (pos 0) ≡ true → SFits w64 (negsuc 0 -ℤ toZ w64 (ofZ w64 z))
   negative e = let l = less z f (rw (toZ-ofZ f) at e) in rw (toZ-ofZ f, l .is) (record { sfits = l .small })
 
   -- what is cast to a u64, and then made one more
-  pub counted : (e : ltZ (toZ w64 (ofZ w64 z)) (pos 0) ≡ true) → let x = toZ w64 (ofZ w64 (negsuc 0 -ℤ toZ w64 (ofZ w64 z))) in T (nonNeg x) × (natAbs x < 2 ^ 63)
+  pub counted : (e : ltZ (toZ w64 (ofZ w64 z)) (pos 0) ≡ true) → let x = toZ w64 (ofZ w64 (negsuc 0 -ℤ toZ w64 (ofZ w64 z))) in T (nonNeg x) × ((natAbs x + 1 ≡ natAbs z) × (natAbs x < 2 ^ 63))
   counted e =
       let l = less z f (rw (toZ-ofZ f) at e) in
       let s : SFits w64 (pos (l .n)) = record { sfits = l .small } in
-      rw (toZ-ofZ f, l .is, toZ-ofZ s) (tt, l .small)
+      rw (toZ-ofZ f, l .is, toZ-ofZ s) (tt, (l .size, l .small))
 
   -- a z that is not below 0 is its own absolute value, and is cast as it stands
-  pub positive : ltZ (toZ w64 (ofZ w64 z)) (pos 0) ≡ false → T (nonNeg (toZ w64 (ofZ w64 z))) × (natAbs (toZ w64 (ofZ w64 z)) < 2 ^ 63)
-  positive e = rw (toZ-ofZ f) (cast z f (rw (toZ-ofZ f) at e))
+  pub positive : ltZ (toZ w64 (ofZ w64 z)) (pos 0) ≡ false → T (nonNeg (toZ w64 (ofZ w64 z))) × ((natAbs (toZ w64 (ofZ w64 z)) ≡ natAbs z) × (natAbs (toZ w64 (ofZ w64 z)) < 2 ^ 63))
+  positive e = let k = cast z f (rw (toZ-ofZ f) at e) in rw (toZ-ofZ f) (k .0, (refl, k .1))
     where
       cast : (z : ℤ) → SFits w64 z → ltZ z (pos 0) ≡ false → T (nonNeg z) × (natAbs z < 2 ^ 63)
       cast (pos n) f e = (tt, f .sfits)

@@ -1,8 +1,14 @@
 // What the programs over a block have in common: words for people, on standard output, and files that arguments name.
-mod fault; // what is wrong in a header
+mod header; // what is wrong in a header
+mod numbers; // numbers in bytes
+mod section; // the field at a byte of a section
+mod trailer; // what was found where a block is refused, and what is allowed
 
-use fault::say_fault;
+use numbers::wide;
+use trailer::say_found;
+ghost use mathlib.Core.Path.{_≡_};
 ghost use Prim.Native.Nat.{_^_, _≤_};
+ghost use lib.IntN.{natAbs};
 ghost use Rattle.io.specs.Counts.{Counts};
 
 pub fn say(text: &[u8]) {
@@ -15,7 +21,8 @@ pub fn say_number(n: usize) {
 
 // The absolute value. -1 - z does not wrap, where 0 - z could.
 pub fn size(z: i64) -> u64
-    ensures { λ r. ⌜ r ≤ 2 ^ 63 ⌝ }
+    ensures is { λ r. ⌜ r ≡ natAbs z ⌝ }
+    ensures low { λ r. ⌜ r ≤ 2 ^ 63 ⌝ }
 {
     if z < 0 {
         let less_one = -1 - z;
@@ -67,9 +74,7 @@ pub fn say_rule(number: u8) {
         4 => say(
             b"a field of the header is outside its range: a picture or a profile that this composer does not do",
         ),
-        5 => say(
-            b"a field of a section is outside its range (docs/RULES.md): ask the block's maker",
-        ),
+        5 => say(b"a field of a section is outside its range: the block's maker has a fault"),
         6 => say(b"mapping_idc is 1: MMR mapping is not built yet"),
         7 => say(b"the plan breaks a range"),
         8 => say(b"the job's ticket is not the opened picture's"),
@@ -80,31 +85,17 @@ pub fn say_rule(number: u8) {
     }
 }
 
-fn wide(b: u8) -> usize {
-    b as usize
-}
-
-// The byte that was found at a place, where there is one.
-fn say_byte(bytes: &[u8], place: usize) {
-    if place < bytes.len() {
-        say(b", which is ");
-        say_number(wide(bytes[place]));
-    }
-}
-
-// A block's refusal: its number, the byte where the failure was met, unless the block is cut off, and what it means.
+// A block's refusal: its number, the byte where the failure was met, unless the block is cut off, what it means, and what was
+// found there.
 pub fn say_refusal(number: u8, place: usize, bytes: &[u8]) {
     say(b"refused ");
     say_number(wide(number));
     if number != 1 {
         say(b" at byte ");
         say_number(place);
-        say_byte(bytes, place);
     }
     say(b": ");
     say_rule(number);
     say(b"\n");
-    if number == 4 {
-        say_fault(bytes, place);
-    }
+    say_found(number, place, bytes);
 }

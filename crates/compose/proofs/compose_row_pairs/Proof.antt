@@ -24,7 +24,7 @@ call st = given (st .args .plan) (st .args .first) (st .args .count) (st .args .
 
 -- the early rules are passed
 abbrev start : tie.Else1 → tie.Start
-start e = e .before .before .before .before .before
+start e = search needs
 
 early : (e : tie.Else1) → (let a = start e .args in EarlyPassed (a .plan) (a .first) (a .count) (length (a .base .now)) (length (a .enhancement .now)) (length (a .output .now)))
 early e = early-passed _ _ _ _ _ _ (sym (e .before .early .ensures) ∙ e .if1 .left)
@@ -57,7 +57,10 @@ places-of-requires : tie.Need-places-of-requires
 places-of-requires c κs = let e : tie.Else1 = search needs in pairs e
 
 -- the stretches lie within every run that is used
-within : (c : tie.After-places-of) (size : ℕ) → size ≡ picture-size (c .before .before .before .before .before .before .before .before .args .plan .header) → Within (c .places-of .result) size
+abbrev placed : tie.After-places-of → tie.Start
+placed c = search needs
+
+within : (c : tie.After-places-of) (size : ℕ) → size ≡ picture-size (placed c .args .plan .header) → Within (c .places-of .result) size
 within c size e =
     let el : tie.Else1 = search needs in
     rw (c .places-of .ensures) (inside _ _ _ (pairs el) size e)
@@ -66,11 +69,12 @@ is-large-requires : tie.Need-is-large-requires
 is-large-requires c κs =
     let e : tie.Else1 = search needs in
     let u : tie.After-is-used = search needs in
-    (facts e, (within c _ (early e .base-size), λ on. within c _ (early e .enhancement-size (sym (u .is-used .ensures) ∙ on))))
+    let p : tie.After-places-of = search needs in
+    (facts e, (within p _ (early e .base-size), λ on. within p _ (early e .enhancement-size (sym (u .is-used .ensures) ∙ on))))
 
 -- the test of the samples is rule 11
 abbrev begun : tie.After-is-large → tie.Start
-begun c = c .before .before .before .before .before .before .before .before .before
+begun c = search needs
 
 rule11 : (c : tie.After-is-large) → c .is-large .result ≡ wrong-sample (call (begun c))
 rule11 c =

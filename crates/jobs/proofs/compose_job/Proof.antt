@@ -108,13 +108,14 @@ same-length-3 c = search needs
 returns-4 : tie.Need-returns-4
 returns-4 c =
     let m : tie.After-mark = search needs in
+    let l : tie.After-waiting = search needs in
     let e3 : tie.Else3 = search needs in
     let n = numbered e3 in
     let w : tie.After-compose-row-pairs = search needs in
     let e = marked n in
     let st = start (ticketed e) in
-    composing-done (called st) (st .args .output .now) (st .args .marks .now) (ticketed e .if1 .left) (marks-fit e) (c .waiting .result) _ _
-    (sym (number-is n) ∙ e3 .if3 .left) (w .compose-row-pairs .ensures .1) (m .mark .ensures) (c .waiting .ensures)
+    composing-done (called st) (st .args .output .now) (st .args .marks .now) (ticketed e .if1 .left) (marks-fit e) (l .waiting .result) _ _
+    (sym (number-is n) ∙ e3 .if3 .left) (w .compose-row-pairs .ensures .1) (m .mark .ensures) (l .waiting .ensures)
 
 pub compose-job-spec : {M : Type 1} → statement M
 compose-job-spec =

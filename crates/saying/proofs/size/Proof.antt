@@ -1,4 +1,4 @@
--- `size` meets its contract: -1 - z is not negative, and one more of it is at most 2^63. Assumes nothing.
+-- `size` meets its contract: -1 - z is not negative, and one more of it is the absolute value. Assumes nothing.
 use native.Mathlib.Omega.{arith}
 use Rattle.saying.proofs.Sizes.{negative, counted, positive}
 use Rattle.saying.proofs.size.Statement.{statement}
@@ -10,27 +10,27 @@ sub-less-one c = negative (c .before .args .z) (c .before .fits .z) (c .if1 .tak
 cast-result : tie.Need-cast-result
 cast-result c =
     let k = counted (c .before .args .z) (c .before .fits .z) (c .if1 .taken) in
-    (k .0, record { fits = omega (arith, k .1) })
+    (k .0, record { fits = omega (arith, k .1 .1) })
 
 add-result : tie.Need-add-result
 add-result c =
     let k = counted (c .before .args .z) (c .before .fits .z) (c .if1 .taken) in
-    record { fits = omega (arith, k .1) }
+    record { fits = omega (arith, k .1 .1) }
 
 returns : tie.Need-returns
 returns c =
     let k = counted (c .before .args .z) (c .before .fits .z) (c .if1 .taken) in
-    omega (arith, k .1)
+    (k .1 .0, omega (arith, k .1 .1))
 
 cast-result-2 : tie.Need-cast-result-2
 cast-result-2 c =
     let k = positive (c .before .args .z) (c .before .fits .z) (c .if1 .left) in
-    (k .0, record { fits = omega (arith, k .1) })
+    (k .0, record { fits = omega (arith, k .1 .1) })
 
 returns-2 : tie.Need-returns-2
 returns-2 c =
     let k = positive (c .before .args .z) (c .before .fits .z) (c .if1 .left) in
-    omega (arith, k .1)
+    (k .1 .0, omega (arith, k .1 .1))
 
 pub size-spec : {M : Type 1} → statement M
 size-spec =

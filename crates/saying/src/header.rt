@@ -1,35 +1,10 @@
 // Which field of a refused header is outside its column (docs/RULES.md, "Header"), what was found there and what is allowed.
+use crate::numbers::four;
+use crate::numbers::one;
+use crate::numbers::two;
 use crate::say;
 use crate::say_number;
 ghost use Prim.Native.Nat.{_^_, _<_};
-
-fn wide(b: u8) -> usize
-    ensures { λ r. ⌜ r < 2 ^ 8 ⌝ }
-{
-    b as usize
-}
-
-// The byte at a place of the header: 0 past its end.
-fn one(s: &[u8], at: usize) -> usize
-    ensures { λ r. ⌜ r < 2 ^ 8 ⌝ }
-{
-    if at < s.len() { wide(s[at]) } else { 0 }
-}
-
-// A number of two bytes, the first the greatest.
-fn two(s: &[u8], at: usize) -> usize
-    requires { ⌜ at < 24 ⌝ }
-    ensures { λ r. ⌜ r < 2 ^ 16 ⌝ }
-{
-    one(s, at) * 256 + one(s, at + 1)
-}
-
-fn four(s: &[u8], at: usize) -> usize
-    requires { ⌜ at < 22 ⌝ }
-    ensures { λ r. ⌜ r < 2 ^ 32 ⌝ }
-{
-    two(s, at) * 65536 + two(s, at + 2)
-}
 
 // Each of these answers whether a field fits, and says so where it does not.
 fn found(name: &[u8], v: usize) {
@@ -175,7 +150,7 @@ fn header_fits(head: &[u8]) -> bool {
 }
 
 // Says what is wrong in the header that begins at a place of the bytes.
-pub(crate) fn say_fault(bytes: &[u8], place: usize) {
+pub(crate) fn say_header(bytes: &[u8], place: usize) {
     if place < bytes.len() {
         header_fits(&bytes[place..]);
     }
