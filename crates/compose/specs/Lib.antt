@@ -1,5 +1,6 @@
 pub mod Ranges
 pub mod Kernel
+pub mod Raising
 pub mod Spans
 pub mod Picture
 pub mod Places

@@ -27,7 +27,7 @@ ghost use Rattle.compose.specs.Planes.{PlanFacts, PlaneGiven, PlanesGive
 fn compose_plain(k: Kernel, codes: u16, out: u32, s: Stretch, base: &[u16], output: &mut [u16])
     requires { ⌜ KernelRanges k ⌝ }
     requires { ⌜ codes ≡ 2 ^ k .depth ⌝ }
-    requires { ⌜ (1 ≤ out) × (out ≤ 15) ⌝ }
+    requires { ⌜ out ≤ 13 ⌝ }
     requires { ⌜ SpanGiven (2 ^ k .depth) (s .from) (s .to) (now base) ⌝ }
     requires { ⌜ s .to ≤ length (now output) ⌝ }
     ensures { λ _. ⌜ now (output .exit) ≡ painted (in-stretch s) (plain-at k out (now (base .entry))) (now (output .entry)) ⌝ }
@@ -48,7 +48,7 @@ fn compose_enhanced(
 )
     requires { ⌜ KernelRanges k ⌝ }
     requires { ⌜ codes ≡ 2 ^ k .depth ⌝ }
-    requires { ⌜ (1 ≤ out) × (out ≤ 15) ⌝ }
+    requires { ⌜ out ≤ 13 ⌝ }
     requires { ⌜ SpanGiven (2 ^ k .depth) (s .from) (s .to) (now base) ⌝ }
     requires { ⌜ SpanGiven (2 ^ k .depth) (s .from) (s .to) (now enhancement) ⌝ }
     requires { ⌜ s .to ≤ length (now output) ⌝ }

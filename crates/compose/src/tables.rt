@@ -58,8 +58,7 @@ pub(crate) fn residuals_of(k: Kernel, codes: u16) -> [i64; 1024]
 
 // The HDR sample of each mapped sample, where there is no residual.
 pub(crate) fn finished_of(out: u32, mapped: [u16; 1024]) -> [u16; 1024]
-    requires { ⌜ 1 ≤ out ⌝ }
-    requires { ⌜ out ≤ 15 ⌝ }
+    requires { ⌜ out ≤ 13 ⌝ }
     ensures { λ r. ⌜ ((s : ℕ) → s < 1024 → at r s ≡ reconstructed out (at mapped s) (pos 0)) ⌝ }
 {
     let mut table = [0u16; 1024];

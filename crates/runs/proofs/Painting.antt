@@ -3,14 +3,14 @@ use mathlib.Core.Path.{_≡_, refl, sym, ap, _∙_, subst}
 use mathlib.Core.Bool.{Bool, true, false, _||_, cond, or-false}
 use mathlib.Core.List.{List, [], _∷_}
 use Prim.Native.Nat.{ℕ, zero, suc, _+_, _≤_, _<_}
-use native.Mathlib.Nat.{add-zero, zero-add, add-suc, suc-add, le-of-suc-le-suc, not-suc-le-zero}
+use native.Mathlib.Nat.{add-zero, zero-add, add-suc, suc-add, le-refl, le-of-suc-le-suc, not-suc-le-zero}
 use native.Mathlib.Omega.{arith}
 use native.Mathlib.Decide.{ℕ-discrete}
 use lib.ListN.{length, getD, set, length-set}
 use lib.Seq.{ext-getD, getD-set-same, getD-set-other}
 use borrow.Author.Tests.{ne-eqb}
 use Rattle.runs.specs.Runs.{map-from, painted, between}
-use Rattle.runs.proofs.Between.{in-between, between-more}
+use Rattle.runs.proofs.Between.{in-between, over-between, between-more}
 
 length-map-from : (f : ℕ → ℕ → ℕ) (k : ℕ) (l : List ℕ) → length (map-from f k l) ≡ length l
 unfolding map-from
@@ -60,11 +60,24 @@ painted-over s t f l =
     go false true x y = refl
     go false false x y = refl
 
+-- painting over a painting by a function of what stands there
+pub painted-again : (s : ℕ → Bool) (f g : ℕ → ℕ) (l : List ℕ) → painted s (λ i. g (getD (painted s f l) i 0)) (painted s f l) ≡ painted s (λ i. g (f i)) l
+painted-again s f g l =
+    is-painted s (λ i. g (f i)) l (painted s (λ i. g (getD (painted s f l) i 0)) (painted s f l)) (length-painted s _ (painted s f l) ∙ length-painted s f l)
+    (λ i b. at-painted s _ (painted s f l) i 0 (subst (λ (n : ℕ). i < n) (sym (length-painted s f l)) b) ∙ ap (λ (x : ℕ). cond (s i) (g x) x) (at-painted s f l i 0 b) ∙ go (s i) (f i) (getD l i 0))
+  where
+    go : (u : Bool) (x y : ℕ) → cond u (g (cond u x y)) (cond u x y) ≡ cond u (g x) y
+    go true x y = refl
+    go false x y = refl
+
 -- where nothing is selected the list is as it was
 pub painted-none : (s : ℕ → Bool) (f : ℕ → ℕ) (l : List ℕ) → ((i : ℕ) → i < length l → s i ≡ false) → painted s f l ≡ l
 painted-none s f l e = sym (is-painted s f l l refl (λ i b. sym (ap (λ (u : Bool). cond u (f i) (getD l i 0)) (e i b))))
 
--- a loop that has painted from a to b stores at b
+-- a loop that has painted from a to b finds the list as it was at b, and stores there
+pub painted-ahead : (a b : ℕ) (f : ℕ → ℕ) (l : List ℕ) → b < length l → getD (painted (between a b) f l) b 0 ≡ getD l b 0
+painted-ahead a b f l h = at-painted (between a b) f l b 0 h ∙ ap (λ (u : Bool). cond u (f b) (getD l b 0)) (over-between a b b (le-refl b))
+
 pub painted-more : (a b : ℕ) (f : ℕ → ℕ) (l : List ℕ) (v : ℕ) → a ≤ b → b < length l → v ≡ f b → set (painted (between a b) f l) b v ≡ painted (between a (b + 1)) f l
 painted-more a b f l v h k q =
     is-painted (between a (b + 1)) f l (set (painted (between a b) f l) b v) (length-set (painted (between a b) f l) b v ∙ length-painted (between a b) f l)

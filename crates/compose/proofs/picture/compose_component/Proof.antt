@@ -23,8 +23,8 @@ module _ (k : tie.After-kernel-of) where
   at-depth : {run : List ℕ} → SpanGiven (2 ^ (start k .args .h .bl + 8)) (start k .args .s .from) (start k .args .s .to) run → SpanGiven (2 ^ k .kernel-of .result .depth) (start k .args .s .from) (start k .args .s .to) run
   at-depth {run} g = subst (λ (n : ℕ). SpanGiven (2 ^ n) (start k .args .s .from) (start k .args .s .to) run) (sym (k .kernel-of .ensures .depth)) g
 
-  out-range : (1 ≤ start k .args .h .hdr + 8) × (start k .args .h .hdr + 8 ≤ 15)
-  out-range = (omega arith, omega (arith, start k .pre .0 .out-depth))
+  out-range : start k .args .h .hdr + 8 ≤ 13
+  out-range = omega (arith, start k .pre .0 .out-depth)
 
 codes : (c : tie.After-codes-of) → c .codes-of .result ≡ 2 ^ c .before .kernel-of .result .depth
 codes c = rw (c .before .kernel-of .ensures .depth) (c .codes-of .ensures)

@@ -16,16 +16,14 @@ compose-span-requires c κs =
     let m : tie.After-mapped-of = search needs in
     let r : tie.After-residuals-of = search needs in
     let a = st .args in
-    let p = st .pre .1 .1 in (
-      p .0,
-      (
-        indices (st .pre .0 .shallow) (p .1 .0),
-        (
-          indices (st .pre .0 .shallow) (p .1 .1 .0),
-          (residuals-small (a .k) (st .pre .0) (a .codes) (st .pre .1 .0) (a .out) (a .s) (m .mapped-of .result) (m .mapped-of .ensures) (a .base .now) (p .1 .0) (r .residuals-of .result) (r .residuals-of .ensures) (a .enhancement .now) (p .1 .1 .0), p .1 .1 .1),
-        ),
-      ),
-    )
+    let p = st .pre .1 .1 in
+    record {
+      shallow = p .0;
+      in-base = indices (st .pre .0 .shallow) (p .1 .0);
+      in-enhancement = indices (st .pre .0 .shallow) (p .1 .1 .0);
+      residual = residuals-small (a .k) (st .pre .0) (a .codes) (st .pre .1 .0) (a .out) (a .s) (m .mapped-of .result) (m .mapped-of .ensures) (a .base .now) (p .1 .0) (r .residuals-of .result) (r .residuals-of .ensures) (a .enhancement .now) (p .1 .1 .0);
+      in-output = p .1 .1 .1;
+    }
 
 same-length : tie.Need-same-length
 same-length c = search needs

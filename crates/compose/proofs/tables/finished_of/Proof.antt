@@ -28,7 +28,7 @@ array-read-reconstruct c = omega arith
 reconstruct-requires : tie.Need-reconstruct-requires Inv-loop μ-loop
 reconstruct-requires c κs =
     let st : tie.Start Inv-loop μ-loop = search needs in
-    (st .pre .0, st .pre .1, zero-le)
+    (st .pre, zero-le)
 
 mul-table : tie.Need-mul-table Inv-loop μ-loop
 mul-table c = omega arith
