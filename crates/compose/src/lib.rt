@@ -1,13 +1,15 @@
 // The composing process over pictures: row pairs of a base picture, perhaps with an enhancement picture, to HDR samples.
+mod enhanced;
 mod kernel;
+mod limit;
 mod mapping;
 mod picture;
 mod places;
+mod plain;
 mod reconstruction;
 mod residual;
 mod rules;
 mod signed;
-mod span;
 mod tables;
 
 use picture::compose_planes;

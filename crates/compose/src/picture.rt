@@ -1,14 +1,10 @@
 // Row pairs composed, one component after the other.
-use crate::kernel::Kernel;
+use crate::enhanced::compose_enhanced;
 use crate::kernel::codes_of;
 use crate::kernel::kernel_of;
 use crate::places::Places;
 use crate::places::Stretch;
-use crate::span::compose_span;
-use crate::span::look_up;
-use crate::tables::finished_of;
-use crate::tables::mapped_of;
-use crate::tables::residuals_of;
+use crate::plain::compose_plain;
 use plan::Component;
 use plan::Header;
 use plan::Plan;
@@ -23,50 +19,6 @@ ghost use Rattle.compose.specs.Spans.{SpanGiven};
 ghost use Rattle.compose.specs.Places.{in-stretch};
 ghost use Rattle.compose.specs.Composing.{sample-of};
 ghost use Rattle.compose.specs.Planes.{PlanFacts, PlaneGiven, PlanesGiven, plain-at, enhanced-at, planes-painted};
-
-fn compose_plain(k: Kernel, codes: u16, out: u32, s: Stretch, base: &[u16], output: &mut [u16])
-    requires { ⌜ KernelRanges k ⌝ }
-    requires { ⌜ codes ≡ 2 ^ k .depth ⌝ }
-    requires { ⌜ out ≤ 13 ⌝ }
-    requires { ⌜ SpanGiven (2 ^ k .depth) (s .from) (s .to) (now base) ⌝ }
-    requires { ⌜ s .to ≤ length (now output) ⌝ }
-    ensures { λ _. ⌜ now (output .exit) ≡ painted (in-stretch s) (plain-at k out (now (base .entry))) (now (output .entry)) ⌝ }
-{
-    let mapped = mapped_of(k, codes);
-    let finished = finished_of(out, mapped);
-    look_up(&finished, s.from, s.to, base, output);
-}
-
-fn compose_enhanced(
-    k: Kernel,
-    codes: u16,
-    out: u32,
-    s: Stretch,
-    base: &[u16],
-    enhancement: &[u16],
-    output: &mut [u16],
-)
-    requires { ⌜ KernelRanges k ⌝ }
-    requires { ⌜ codes ≡ 2 ^ k .depth ⌝ }
-    requires { ⌜ out ≤ 13 ⌝ }
-    requires { ⌜ SpanGiven (2 ^ k .depth) (s .from) (s .to) (now base) ⌝ }
-    requires { ⌜ SpanGiven (2 ^ k .depth) (s .from) (s .to) (now enhancement) ⌝ }
-    requires { ⌜ s .to ≤ length (now output) ⌝ }
-    ensures { λ _. ⌜ now (output .exit) ≡ painted (in-stretch s) (enhanced-at k out (now (base .entry)) (now (enhancement .entry))) (now (output .entry)) ⌝ }
-{
-    let mapped = mapped_of(k, codes);
-    let residuals = residuals_of(k, codes);
-    compose_span(
-        out,
-        &mapped,
-        &residuals,
-        s.from,
-        s.to,
-        base,
-        enhancement,
-        output,
-    );
-}
 
 fn compose_component(
     h: Header,

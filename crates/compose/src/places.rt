@@ -1,5 +1,5 @@
 // Where the samples of a picture's row pairs lie: one stretch of the run in each plane.
-use crate::span::largest;
+use crate::limit::largest;
 use plan::Header;
 ghost use mathlib.Core.Path.{_≡_};
 ghost use Prim.Native.Nat.{ℕ, _+_, _*_, _≤_};

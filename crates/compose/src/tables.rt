@@ -69,3 +69,18 @@ pub(crate) fn finished_of(out: u32, mapped: [u16; 1024]) -> [u16; 1024]
     }
     table
 }
+
+// What a table has for a code.
+pub(crate) fn entry(table: &[u16; 1024], code: u16) -> u16
+    requires { ⌜ code < 1024 ⌝ }
+    ensures { λ r. ⌜ r ≡ at (now (table .entry)) code ⌝ }
+{
+    table[code as usize]
+}
+
+pub(crate) fn residual_entry(residuals: &[i64; 1024], code: u16) -> i64
+    requires { ⌜ code < 1024 ⌝ }
+    ensures { λ r. ⌜ r ≡ coef (now (residuals .entry)) code ⌝ }
+{
+    residuals[code as usize]
+}

@@ -12,14 +12,14 @@ compose-component-requires-2 : tie.Need-compose-component-requires-2
 compose-component-requires-2 c κs =
     let st : tie.Start = search needs in
     let a : tie.After-compose-component = search needs in
-    (st .pre .0 .header, (st .pre .0 .cb, rw (a .compose-component .ensures, length-painted) (st .pre .1 .cb)))
+    (st .pre .0 .header, (search needs, rw (a .compose-component .ensures, length-painted) (st .pre .1 .cb)))
 
 compose-component-requires-3 : tie.Need-compose-component-requires-3
 compose-component-requires-3 c κs =
     let st : tie.Start = search needs in
     let a : tie.After-compose-component = search needs in
     let b : tie.After-compose-component2 = search needs in
-    (st .pre .0 .header, (st .pre .0 .cr, rw (b .compose-component2 .ensures, length-painted, a .compose-component .ensures, length-painted) (st .pre .1 .cr)))
+    (st .pre .0 .header, (search needs, rw (b .compose-component2 .ensures, length-painted, a .compose-component .ensures, length-painted) (st .pre .1 .cr)))
 
 same-length : tie.Need-same-length
 same-length c = search needs

@@ -47,7 +47,8 @@ some-large-requires-2 : tie.Need-some-large-requires-2
 some-large-requires-2 c κs =
     let st : tie.Start = search needs in
     let e : tie.Else2 = search needs in
-    (st .pre .1 .1 (not-false _ (e .if2 .left)), rw (c .codes-of2 .ensures) (pow-pos (st .args .h .el + 8)))
+    let within = st .pre .1 .1 (not-false _ (e .if2 .left)) in
+    (search needs, rw (c .codes-of2 .ensures) (pow-pos (st .args .h .el + 8)))
 
 returns-3 : tie.Need-returns-3
 unfolding large-at

@@ -5,8 +5,8 @@ use Prim.Native.Nat.{ℕ, _+_, _-_, _<_, _≤_}
 use native.Mathlib.Omega.{arith}
 use lib.ListN.{getD}
 use Rattle.runs.proofs.Largest.{Most, most-none, most-up, most-same, most-some}
-use Rattle.compose.proofs.span.largest.Statement.{statement}
-use Rattle.compose.proofs.span.largest.Tie as tie
+use Rattle.compose.proofs.limit.largest.Statement.{statement}
+use Rattle.compose.proofs.limit.largest.Tie as tie
 
 abbrev Inv-loop : tie.InvT-loop
 Inv-loop from to run most₀ i₀ most i = (from ≤ i) × ((i ≤ to) × Most from i run most)

@@ -1,8 +1,8 @@
 use mathlib.Core.Path.{_≡_, _∙_}
 use borrow.Author.Needs.{needs}
 use Rattle.compose.proofs.Looking.{indices, plain-looked}
-use Rattle.compose.proofs.picture.compose_plain.Statement.{statement}
-use Rattle.compose.proofs.picture.compose_plain.Tie as tie
+use Rattle.compose.proofs.plain.compose_plain.Statement.{statement}
+use Rattle.compose.proofs.plain.compose_plain.Tie as tie
 
 mapped-of-requires : tie.Need-mapped-of-requires
 mapped-of-requires c κs = search needs

@@ -1,4 +1,4 @@
-use mathlib.Core.Path.{_≡_, refl, sym, ap, _∙_}
+use mathlib.Core.Path.{_≡_, refl, sym, ap, ap₂, _∙_}
 use borrow.Author.Needs.{needs}
 use Prim.Native.Nat.{ℕ, _-_, _<_, _≤_, _^_}
 use native.Mathlib.Omega.{arith}
@@ -6,7 +6,7 @@ use lib.ListN.{length, set, length-set}
 use Rattle.runs.specs.Runs.{painted, between}
 use Rattle.runs.proofs.Between.{between-empty}
 use Rattle.runs.proofs.Painting.{painted-none, painted-more}
-use lib.IntN.{natAbs}
+use lib.IntN.{ℤ, natAbs}
 use lib.Dec.{lit<}
 use mir.Syntax.{w64}
 use mir.Val.{toZ, ofZ}
@@ -15,8 +15,8 @@ use Rattle.words.proofs.Bounds.{fits}
 use Rattle.compose.specs.Ranges.{at, coef}
 use Rattle.compose.specs.Raising.{raised}
 use Rattle.compose.specs.Spans.{raised-by}
-use Rattle.compose.proofs.span.raise_span.Statement.{statement}
-use Rattle.compose.proofs.span.raise_span.Tie as tie
+use Rattle.compose.proofs.enhanced.raise_span.Statement.{statement}
+use Rattle.compose.proofs.enhanced.raise_span.Tie as tie
 
 -- the output is painted so far
 abbrev Inv-loop : tie.InvT-loop
@@ -31,82 +31,66 @@ abbrev start : tie.In-loop Inv-loop μ-loop → tie.Start Inv-loop μ-loop
 start il = il .before .before .before .before .before
 
 module _ (il : tie.In-loop Inv-loop μ-loop) where
-  small-base : at (start il .args .base .now) (il .before .loop .i) < 1024
-  small-base = start il .pre .in-base .sample (il .before .loop .i) (omega arith) (omega arith)
-
-  small-enhancement : at (start il .args .enhancement .now) (il .before .loop .i) < 1024
-  small-enhancement = start il .pre .in-enhancement .sample (il .before .loop .i) (omega arith) (omega arith)
+  small : (at (start il .args .base .now) (il .before .loop .i) < 1024) × (at (start il .args .enhancement .now) (il .before .loop .i) < 1024)
+  small = (
+    start il .pre .in-base .sample (il .before .loop .i) (omega arith) (omega arith),
+    start il .pre .in-enhancement .sample (il .before .loop .i) (omega arith) (omega arith),
+  )
 
   small-residual : natAbs (coef (start il .args .residuals .now) (at (start il .args .enhancement .now) (il .before .loop .i))) ≤ 2 ^ 17
   small-residual = start il .pre .residual (il .before .loop .i) (omega arith) (omega arith)
 
-  -- the residual as the callee is passed it
-  passed : (let r = coef (start il .args .residuals .now) (at (start il .args .enhancement .now) (il .before .loop .i)) in toZ w64 (ofZ w64 r) ≡ r)
-  passed = toZ-ofZ (fits _ small-residual (lit< tt))
+-- the residual as `raise` is passed it
+abbrev looped : tie.After-residual-entry Inv-loop μ-loop → tie.In-loop Inv-loop μ-loop
+looped c = search needs
+
+passed : (c : tie.After-residual-entry Inv-loop μ-loop) → (let il = looped c in toZ w64 (ofZ w64 (c .residual-entry .result)) ≡ coef (start il .args .residuals .now) (at (start il .args .enhancement .now) (il .before .loop .i)))
+passed c = ap (λ (z : ℤ). toZ w64 (ofZ w64 z)) (c .residual-entry .ensures) ∙ toZ-ofZ (fits _ (small-residual (looped c)) (lit< tt))
 
 loop-holds : tie.Need-loop-holds Inv-loop μ-loop
 loop-holds c =
     let st : tie.Start Inv-loop μ-loop = search needs in
     (omega arith, (st .pre .in-base .forward, (sym (painted-none _ _ _ (λ i b. between-empty _ i)), refl)))
 
-mul-v : tie.Need-mul-v Inv-loop μ-loop
-mul-v c =
+mul-entry : tie.Need-mul-entry Inv-loop μ-loop
+mul-entry c =
     let st : tie.Start Inv-loop μ-loop = search needs in
     let il : tie.In-loop Inv-loop μ-loop = search needs in
     omega (arith, il .loop-test, st .pre .in-base .inside)
 
-shared-slice-read-v : tie.Need-shared-slice-read-v Inv-loop μ-loop
-shared-slice-read-v c =
+shared-slice-read-entry : tie.Need-shared-slice-read-entry Inv-loop μ-loop
+shared-slice-read-entry c =
     let st : tie.Start Inv-loop μ-loop = search needs in
     let il : tie.In-loop Inv-loop μ-loop = search needs in
     omega (arith, il .loop-test, st .pre .in-base .inside)
 
-cast-v : tie.Need-cast-v Inv-loop μ-loop
-cast-v c =
+entry-requires : tie.Need-entry-requires Inv-loop μ-loop
+entry-requires c κs =
     let il : tie.In-loop Inv-loop μ-loop = search needs in
-    omega (arith, small-base il)
+    omega (arith, small il .0, small il .1)
 
-mul-v-2 : tie.Need-mul-v-2 Inv-loop μ-loop
-mul-v-2 c =
-    let il : tie.In-loop Inv-loop μ-loop = search needs in
-    omega (arith, small-base il)
-
-element-copy-out-v : tie.Need-element-copy-out-v Inv-loop μ-loop
-element-copy-out-v c =
-    let il : tie.In-loop Inv-loop μ-loop = search needs in
-    omega (arith, small-base il)
-
-mul-r : tie.Need-mul-r Inv-loop μ-loop
-mul-r c =
+mul-residual-entry : tie.Need-mul-residual-entry Inv-loop μ-loop
+mul-residual-entry c =
     let st : tie.Start Inv-loop μ-loop = search needs in
     let il : tie.In-loop Inv-loop μ-loop = search needs in
     omega (arith, il .loop-test, st .pre .in-enhancement .inside)
 
-shared-slice-read-r : tie.Need-shared-slice-read-r Inv-loop μ-loop
-shared-slice-read-r c =
+shared-slice-read-residual-entry : tie.Need-shared-slice-read-residual-entry Inv-loop μ-loop
+shared-slice-read-residual-entry c =
     let st : tie.Start Inv-loop μ-loop = search needs in
     let il : tie.In-loop Inv-loop μ-loop = search needs in
     omega (arith, il .loop-test, st .pre .in-enhancement .inside)
 
-cast-r : tie.Need-cast-r Inv-loop μ-loop
-cast-r c =
+residual-entry-requires : tie.Need-residual-entry-requires Inv-loop μ-loop
+residual-entry-requires c κs =
     let il : tie.In-loop Inv-loop μ-loop = search needs in
-    omega (arith, small-enhancement il)
-
-mul-r-2 : tie.Need-mul-r-2 Inv-loop μ-loop
-mul-r-2 c =
-    let il : tie.In-loop Inv-loop μ-loop = search needs in
-    omega (arith, small-enhancement il)
-
-element-copy-out-r : tie.Need-element-copy-out-r Inv-loop μ-loop
-element-copy-out-r c =
-    let il : tie.In-loop Inv-loop μ-loop = search needs in
-    omega (arith, small-enhancement il)
+    omega (arith, small il .0, small il .1)
 
 raise-requires : tie.Need-raise-requires Inv-loop μ-loop
 raise-requires c κs =
     let il : tie.In-loop Inv-loop μ-loop = search needs in
-    (start il .pre .shallow, rw (passed il) (small-residual il))
+    let r : tie.After-residual-entry Inv-loop μ-loop = search needs in
+    (start il .pre .shallow, rw (passed r) (small-residual il))
 
 mul-output : tie.Need-mul-output Inv-loop μ-loop
 mul-output c =
@@ -132,6 +116,8 @@ unfolding raised-by
 loop-again c =
     let lp : tie.At-loop Inv-loop μ-loop = search needs in
     let il : tie.In-loop Inv-loop μ-loop = search needs in
+    let v : tie.After-entry Inv-loop μ-loop = search needs in
+    let r : tie.After-residual-entry Inv-loop μ-loop = search needs in
     let a = start il .args in
     let i = lp .loop .i in (
       omega arith,
@@ -140,7 +126,7 @@ loop-again c =
         (
           ap (λ l. set l i (c .raise .result)) (lp .loop .inv .1 .1 .0)
               ∙ painted-more (a .from) i (raised-by (a .out) (a .mapped .now) (a .residuals .now) (a .base .now) (a .enhancement .now)) (a .output .now) (c .raise .result) (omega arith) (omega (arith, start il .pre .in-output))
-              (c .raise .ensures ∙ ap (raised (a .out) (at (a .mapped .now) (at (a .base .now) i))) (passed il)),
+              (c .raise .ensures ∙ ap₂ (raised (a .out)) (v .entry .ensures) (passed r)),
           simp length-set (lp .loop .inv .1 .1 .1),
         ),
       ),
@@ -166,16 +152,12 @@ raise-span-spec =
     Inv-loop
     μ-loop
     loop-holds
-    mul-v
-    shared-slice-read-v
-    cast-v
-    mul-v-2
-    element-copy-out-v
-    mul-r
-    shared-slice-read-r
-    cast-r
-    mul-r-2
-    element-copy-out-r
+    mul-entry
+    shared-slice-read-entry
+    entry-requires
+    mul-residual-entry
+    shared-slice-read-residual-entry
+    residual-entry-requires
     raise-requires
     mul-output
     slice-write-output

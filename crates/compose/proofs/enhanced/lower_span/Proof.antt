@@ -8,8 +8,8 @@ use Rattle.runs.proofs.Between.{between-empty}
 use Rattle.runs.proofs.Painting.{painted-none, painted-ahead, painted-more}
 use Rattle.compose.specs.Raising.{lowered}
 use Rattle.compose.specs.Spans.{lowered-at}
-use Rattle.compose.proofs.span.lower_span.Statement.{statement}
-use Rattle.compose.proofs.span.lower_span.Tie as tie
+use Rattle.compose.proofs.enhanced.lower_span.Statement.{statement}
+use Rattle.compose.proofs.enhanced.lower_span.Tie as tie
 
 -- the output is painted so far
 abbrev Inv-loop : tie.InvT-loop

@@ -1,8 +1,8 @@
 use mathlib.Core.Path.{_≡_, _∙_}
 use borrow.Author.Needs.{needs}
 use Rattle.compose.proofs.Looking.{indices, enhanced-looked, residuals-small}
-use Rattle.compose.proofs.picture.compose_enhanced.Statement.{statement}
-use Rattle.compose.proofs.picture.compose_enhanced.Tie as tie
+use Rattle.compose.proofs.enhanced.compose_enhanced.Statement.{statement}
+use Rattle.compose.proofs.enhanced.compose_enhanced.Tie as tie
 
 mapped-of-requires : tie.Need-mapped-of-requires
 mapped-of-requires c κs = search needs

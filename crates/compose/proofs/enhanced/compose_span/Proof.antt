@@ -10,8 +10,8 @@ use Rattle.compose.specs.Ranges.{at, coef}
 use Rattle.compose.specs.Raising.{lowered}
 use Rattle.compose.specs.Spans.{EnhancedGiven, composed-by, raised-by, lowered-at}
 use Rattle.compose.proofs.Raising.{lowered-raised}
-use Rattle.compose.proofs.span.compose_span.Statement.{statement}
-use Rattle.compose.proofs.span.compose_span.Tie as tie
+use Rattle.compose.proofs.enhanced.compose_span.Statement.{statement}
+use Rattle.compose.proofs.enhanced.compose_span.Tie as tie
 
 -- a span that is raised and then lowered
 lowered-span : (out : ℕ) (mapped : List ℕ) (residuals : List ℤ) (from to : ℕ) (base enhancement : List ℕ) {room : ℕ} (output : List ℕ) → EnhancedGiven out residuals from to base enhancement room →

@@ -8,8 +8,8 @@ use Rattle.runs.proofs.Between.{between-empty}
 use Rattle.runs.proofs.Painting.{painted-none, painted-more}
 use Rattle.compose.specs.Ranges.{at}
 use Rattle.compose.specs.Spans.{looked-up}
-use Rattle.compose.proofs.span.look_up.Statement.{statement}
-use Rattle.compose.proofs.span.look_up.Tie as tie
+use Rattle.compose.proofs.plain.look_up.Statement.{statement}
+use Rattle.compose.proofs.plain.look_up.Tie as tie
 
 -- the output is painted so far
 abbrev Inv-loop : tie.InvT-loop
@@ -24,39 +24,27 @@ loop-holds c =
     let st : tie.Start Inv-loop μ-loop = search needs in
     (omega arith, (st .pre .0 .forward, (sym (painted-none _ _ _ (λ i b. between-empty _ i)), refl)))
 
-mul-output : tie.Need-mul-output Inv-loop μ-loop
-mul-output c =
+mul-entry : tie.Need-mul-entry Inv-loop μ-loop
+mul-entry c =
     let st : tie.Start Inv-loop μ-loop = search needs in
     let il : tie.In-loop Inv-loop μ-loop = search needs in
     omega (arith, il .loop-test, st .pre .0 .inside)
 
-shared-slice-read-output : tie.Need-shared-slice-read-output Inv-loop μ-loop
-shared-slice-read-output c =
+shared-slice-read-entry : tie.Need-shared-slice-read-entry Inv-loop μ-loop
+shared-slice-read-entry c =
     let st : tie.Start Inv-loop μ-loop = search needs in
     let il : tie.In-loop Inv-loop μ-loop = search needs in
     omega (arith, il .loop-test, st .pre .0 .inside)
 
 -- a sample is an index of the table
-small : (il : tie.In-loop Inv-loop μ-loop) → (let st = il .before .before in at (st .args .base .now) (il .before .loop .i) < 1024)
-small il = let st = il .before .before in st .pre .0 .sample (il .before .loop .i) (omega arith) (omega arith)
-
-cast-output : tie.Need-cast-output Inv-loop μ-loop
-cast-output c =
+entry-requires : tie.Need-entry-requires Inv-loop μ-loop
+entry-requires c κs =
+    let st : tie.Start Inv-loop μ-loop = search needs in
     let il : tie.In-loop Inv-loop μ-loop = search needs in
-    omega (arith, small il)
+    search (needs, st .pre .0 .sample, il .loop-test)
 
-mul-output-2 : tie.Need-mul-output-2 Inv-loop μ-loop
-mul-output-2 c =
-    let il : tie.In-loop Inv-loop μ-loop = search needs in
-    omega (arith, small il)
-
-element-copy-out-output : tie.Need-element-copy-out-output Inv-loop μ-loop
-element-copy-out-output c =
-    let il : tie.In-loop Inv-loop μ-loop = search needs in
-    omega (arith, small il)
-
-mul-output-3 : tie.Need-mul-output-3 Inv-loop μ-loop
-mul-output-3 c =
+mul-output : tie.Need-mul-output Inv-loop μ-loop
+mul-output c =
     let st : tie.Start Inv-loop μ-loop = search needs in
     let il : tie.In-loop Inv-loop μ-loop = search needs in
     omega (arith, il .loop-test, st .pre .1)
@@ -85,8 +73,8 @@ loop-again c =
       (
         omega arith,
         (
-          ap (λ l. set l i (looked-up (a .table .now) (a .base .now) i)) (lp .loop .inv .1 .1 .0)
-              ∙ painted-more (a .from) i (looked-up (a .table .now) (a .base .now)) (a .output .now) (looked-up (a .table .now) (a .base .now) i) (omega arith) (omega (arith, st .pre .1)) refl,
+          ap (λ l. set l i (c .entry .result)) (lp .loop .inv .1 .1 .0)
+              ∙ painted-more (a .from) i (looked-up (a .table .now) (a .base .now)) (a .output .now) (c .entry .result) (omega arith) (omega (arith, st .pre .1)) (c .entry .ensures),
           simp length-set (lp .loop .inv .1 .1 .1),
         ),
       ),
@@ -112,12 +100,10 @@ look-up-spec =
     Inv-loop
     μ-loop
     loop-holds
+    mul-entry
+    shared-slice-read-entry
+    entry-requires
     mul-output
-    shared-slice-read-output
-    cast-output
-    mul-output-2
-    element-copy-out-output
-    mul-output-3
     slice-write-output
     add-i
     loop-less
