@@ -14,12 +14,15 @@ mod tables;
 
 use picture::compose_planes;
 use places::places_of;
+use plan::Header;
 use plan::Plan;
 use rules::early;
 use rules::is_large;
 use rules::is_used;
 ghost use mathlib.Core.Path.{_≡_};
+ghost use Prim.Native.Nat.{_*_};
 ghost use lib.ListN.{length};
+ghost use Rattle.compose.specs.Picture.{picture-size};
 ghost use Rattle.compose.specs.Composing.{given, answer, output-after, number-of};
 
 // What composing row pairs comes to: they are written, or the call is refused by a number and nothing is written.
@@ -36,6 +39,19 @@ pub fn number(c: Composed) -> u8
         Composed::Written => 0,
         Composed::Refused(k) => k,
     }
+}
+
+fn samples(columns: u16, pairs: u16) -> usize
+    ensures { λ r. ⌜ r ≡ 6 * (columns * pairs) ⌝ }
+{
+    6 * ((columns as usize) * (pairs as usize))
+}
+
+// How many samples the run of a picture has, 3WH/2, whatever the header says.
+pub fn picture_size(h: Header) -> usize
+    ensures { λ r. ⌜ r ≡ picture-size h ⌝ }
+{
+    samples(h.columns, h.pairs)
 }
 
 // Composes `count` row pairs from `first` on, or refuses by rule 7, 9, 10 or 11, in this order, and writes nothing.

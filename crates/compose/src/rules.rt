@@ -1,5 +1,6 @@
 // The rules of a call: 7, 9 and 10 by the plan and the lengths, 11 by the samples.
 use crate::kernel::codes_of;
+use crate::picture_size;
 use crate::places::Places;
 use crate::places::some_large;
 use plan::Header;
@@ -9,7 +10,6 @@ ghost use mathlib.Core.Path.{_≡_};
 ghost use mathlib.Core.Bool.{true};
 ghost use lib.ListN.{length};
 ghost use Rattle.plan.specs.Facts.{HeaderFacts};
-ghost use Rattle.compose.specs.Picture.{picture-size};
 ghost use Rattle.compose.specs.Places.{Within};
 ghost use Rattle.compose.specs.Composing.{used, wrong-length, wrong-pairs};
 ghost use Rattle.compose.specs.Early.{early-refusal, large-at};
@@ -21,19 +21,11 @@ pub(crate) fn is_used(h: Header, enhancement: usize) -> bool
     (h.disabled == 0) & (0 < enhancement)
 }
 
-fn picture_size_of(h: Header) -> usize
-    requires { ⌜ HeaderFacts h ⌝ }
-    ensures { λ r. ⌜ r ≡ picture-size h ⌝ }
-{
-    6 * ((h.columns as usize) * (h.pairs as usize))
-}
-
 // Rule 9. An enhancement that is not used may have any length.
 fn is_wrong_length(h: Header, base: usize, enhancement: usize, output: usize) -> bool
-    requires { ⌜ HeaderFacts h ⌝ }
     ensures { λ r. ⌜ r ≡ wrong-length h base enhancement output ⌝ }
 {
-    let size = picture_size_of(h);
+    let size = picture_size(h);
     let enhanced = is_used(h, enhancement);
     (base != size) | ((output != size) | (enhanced & (enhancement != size)))
 }

@@ -4,6 +4,7 @@
 mod files; // runs of samples from files and back
 mod night; // the jobs of one picture
 
+use compose::picture_size;
 use files::Loaded;
 use files::adler32;
 use files::is_none;
@@ -143,16 +144,11 @@ fn compose_picture(
     );
 }
 
-// The samples of a picture whose chroma planes have so many columns and rows.
-fn size_of(columns: u16, pairs: u16) -> usize {
-    6 * ((columns as usize) * (pairs as usize))
-}
-
 // The largest picture that this program takes has 460,800 samples (3WH/2), as 640 x 480 has: there is no heap, and the runs
 // lie on the stack.
 fn compose_plan(plan: Plan) {
     let h = plan.header;
-    let size = size_of(h.columns, h.pairs);
+    let size = picture_size(h);
     if 460800 < size {
         say(b"the picture is larger than this program takes: 460,800 samples, as 640 x 480 has\n");
         return;

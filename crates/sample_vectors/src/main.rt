@@ -2,13 +2,13 @@
 // standard input. A stream that is malformed ends there.
 use compose::Composed;
 use compose::compose_row_pairs;
+use compose::picture_size;
 use plan::Plan;
 use streams::next_block;
 use streams::next_number;
 use streams::next_run;
 use streams::print_refusal;
 use streams::print_run;
-use streams::size_of;
 use streams::untouch;
 
 fn print_answer(answer: Composed, output: &[u16]) {
@@ -67,7 +67,7 @@ fn run_case() -> bool {
     let plan = reading.plan;
     let h = plan.header;
     let mut output = [0u16; 96];
-    run_picture(plan, size_of(h.columns, h.pairs), &mut output);
+    run_picture(plan, picture_size(h), &mut output);
     true
 }
 

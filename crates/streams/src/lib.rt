@@ -1,7 +1,6 @@
 // What the vector programs share: numbers and runs from standard input, runs to standard output.
 use block::Reading;
-ghost use mathlib.Core.Path.{_≡_};
-ghost use Prim.Native.Nat.{_*_, _<_, _≤_};
+ghost use Prim.Native.Nat.{_<_, _≤_};
 ghost use Rattle.block.specs.Facts.{Sound};
 
 // A number of the input; `there` is false where the input has ended.
@@ -106,11 +105,4 @@ pub fn print_refusal(number: u8) {
     io::write_all(1, b"refused ");
     io::print_decimal(1, number as u64);
     io::write_all(1, b"\n");
-}
-
-// The samples of a picture whose chroma planes have so many columns and rows.
-pub fn size_of(columns: u16, pairs: u16) -> usize
-    ensures { λ r. ⌜ r ≡ 6 * (columns * pairs) ⌝ }
-{
-    6 * ((columns as usize) * (pairs as usize))
 }

@@ -3,7 +3,6 @@ use mathlib.Core.Bool.{true}
 use borrow.Author.Needs.{needs}
 use borrow.Author.Tests.{not-true, not-false}
 use Rattle.plan.specs.Rule7.{fitting}
-use Rattle.plan.proofs.Facts.{header-facts}
 use Rattle.compose.specs.Early.{early-refusal}
 use Rattle.compose.proofs.rules.early.Statement.{statement}
 use Rattle.compose.proofs.rules.early.Tie as tie
@@ -19,7 +18,7 @@ fine : (e : tie.Else1) → fitting (e .before .before .args .plan) ≡ true
 fine e = sym (e .before .passes .ensures) ∙ not-false _ (e .if1 .left)
 
 is-wrong-length-requires : tie.Need-is-wrong-length-requires
-is-wrong-length-requires c κs = let e : tie.Else1 = search needs in header-facts _ (fine e)
+is-wrong-length-requires c κs = search needs
 
 returns-2 : tie.Need-returns-2
 unfolding early-refusal

@@ -3,8 +3,8 @@ use Rattle.compose.specs.Composing.{wrong-length}
 use Rattle.compose.proofs.rules.is_wrong_length.Statement.{statement}
 use Rattle.compose.proofs.rules.is_wrong_length.Tie as tie
 
-picture-size-of-requires : tie.Need-picture-size-of-requires
-picture-size-of-requires c κs = search needs
+picture-size-requires : tie.Need-picture-size-requires
+picture-size-requires c κs = search needs
 
 is-used-requires : tie.Need-is-used-requires
 is-used-requires c κs = search needs
@@ -12,9 +12,9 @@ is-used-requires c κs = search needs
 returns : tie.Need-returns
 unfolding wrong-length
 returns c =
-    let s : tie.After-picture-size-of = search needs in
+    let s : tie.After-picture-size = search needs in
     let u : tie.After-is-used = search needs in
-    rw (s .picture-size-of .ensures, u .is-used .ensures)
+    rw (s .picture-size .ensures, u .is-used .ensures)
 
 pub is-wrong-length-spec : {M : Type 1} → statement M
-is-wrong-length-spec = tie.close (tie.spec picture-size-of-requires is-used-requires returns)
+is-wrong-length-spec = tie.close (tie.spec picture-size-requires is-used-requires returns)

@@ -2,8 +2,8 @@ use borrow.Author.Needs.{needs}
 use Prim.Native.Nat.{_*_, _≤_, _^_}
 use native.Mathlib.Nat.{mul-le-mul, le-of-lt}
 use native.Mathlib.Omega.{arith}
-use Rattle.streams.proofs.size_of.Statement.{statement}
-use Rattle.streams.proofs.size_of.Tie as tie
+use Rattle.compose.proofs.samples.Statement.{statement}
+use Rattle.compose.proofs.samples.Tie as tie
 
 small : (c : tie.Start) → c .args .columns * c .args .pairs ≤ 2 ^ 16 * 2 ^ 16
 small c = mul-le-mul (le-of-lt (c .fits .columns .fits)) (le-of-lt (c .fits .pairs .fits))
@@ -21,5 +21,5 @@ mul-result-2 c =
 returns : tie.Need-returns
 returns c = search needs
 
-pub size-of-spec : {M : Type 1} → statement M
-size-of-spec = tie.close (tie.spec mul-result mul-result-2 returns)
+pub samples-spec : {M : Type 1} → statement M
+samples-spec = tie.close (tie.spec mul-result mul-result-2 returns)
