@@ -3,6 +3,7 @@
 // in the middle after which the jobs in flight are sent again.
 mod files; // runs of samples from files and back
 mod night; // the jobs of one picture
+mod sample; // which sample is too large
 
 use compose::picture_size;
 use files::Loaded;
@@ -11,6 +12,7 @@ use files::is_none;
 use files::load;
 use files::store;
 use night::compose_night;
+use plan::Header;
 use plan::Plan;
 use saying::load_bytes;
 use saying::say;
@@ -31,11 +33,15 @@ fn twice(x: u16) -> usize {
     2 * (x as usize)
 }
 
-fn say_picture(plan: Plan, enhanced: bool) {
-    let h = plan.header;
+fn say_size(h: Header) {
     say_number(twice(h.columns));
     say(b" x ");
     say_number(twice(h.pairs));
+}
+
+fn say_picture(plan: Plan, enhanced: bool) {
+    let h = plan.header;
+    say_size(h);
     say(b", ");
     say_number(wide(h.bl) + 8);
     say(b" bit to ");
@@ -150,7 +156,8 @@ fn compose_plan(plan: Plan) {
     let h = plan.header;
     let size = picture_size(h);
     if 460800 < size {
-        say(b"the picture is larger than this program takes: 460,800 samples, as 640 x 480 has\n");
+        say_size(h);
+        say(b" is larger than this program takes: 460,800 samples (3WH/2), as 640 x 480 has\n");
         return;
     }
     let mut base = [0u16; 460800];

@@ -1,4 +1,5 @@
 // The jobs of one picture, and the standby in the middle of them.
+use crate::sample::say_samples;
 use jobs::Answer;
 use jobs::Opened;
 use jobs::compose_job;
@@ -52,6 +53,9 @@ fn send(
             say(b", ");
             say_rule(number);
             say(b"\n");
+            if number == 11 {
+                say_samples(plan, base, enhancement);
+            }
             false
         }
     }
