@@ -10,7 +10,7 @@ use crate::tables::mapped_of;
 use crate::tables::residual_entry;
 use crate::tables::residuals_of;
 ghost use mathlib.Core.Path.{_≡_};
-ghost use Prim.Native.Nat.{_≤_, _^_};
+ghost use Prim.Native.Nat.{_<_, _≤_, _^_};
 ghost use lib.ListN.{length};
 ghost use Rattle.runs.specs.Runs.{painted, between};
 ghost use Rattle.compose.specs.Kernel.{KernelRanges};
@@ -70,6 +70,35 @@ fn compose_span(
     lower_span(out, from, to, output);
 }
 
+// Where the part ends that begins at i: so soon that the second pass finds in the nearest cache what the first has stored.
+fn part_end(i: usize, to: usize) -> usize
+    requires { ⌜ i < to ⌝ }
+    ensures { λ r. ⌜ (i < r) × (r ≤ to) ⌝ }
+{
+    if to - i < 2048 { to } else { i + 2048 }
+}
+
+fn compose_parts(
+    out: u32,
+    mapped: &[u16; 1024],
+    residuals: &[i64; 1024],
+    from: usize,
+    to: usize,
+    base: &[u16],
+    enhancement: &[u16],
+    output: &mut [u16],
+)
+    requires { ⌜ EnhancedGiven out (now residuals) from to (now base) (now enhancement) (length (now output)) ⌝ }
+    ensures { λ _. ⌜ now (output .exit) ≡ painted (between from to) (composed-by out (now (mapped .entry)) (now (residuals .entry)) (now (base .entry)) (now (enhancement .entry))) (now (output .entry)) ⌝ }
+{
+    let mut i = from;
+    while i < to {
+        let end = part_end(i, to);
+        compose_span(out, mapped, residuals, i, end, base, enhancement, output);
+        i = end;
+    }
+}
+
 pub(crate) fn compose_enhanced(
     k: Kernel,
     codes: u16,
@@ -89,7 +118,7 @@ pub(crate) fn compose_enhanced(
 {
     let mapped = mapped_of(k, codes);
     let residuals = residuals_of(k, codes);
-    compose_span(
+    compose_parts(
         out,
         &mapped,
         &residuals,

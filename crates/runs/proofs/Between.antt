@@ -42,6 +42,15 @@ between-more a b i h = ⊎-elim
     (λ q. in-between a (b + 1) i (omega arith) (omega arith) ∙ sym (ap₂ _||_ (over-between a b i k) (eq-eqb i b (omega arith)))) (lt-or-ge b i))
     (lt-or-ge i b)
 
+-- two stretches, one after the other
+pub between-join : (a b c i : ℕ) → a ≤ b → b ≤ c → (between a b i || between b c i) ≡ between a c i
+between-join a b c i h k = ⊎-elim
+    (λ p. ⊎-elim (λ q. ap₂ _||_ (under-between a b i q) (under-between b c i p) ∙ sym (under-between a c i q))
+    (λ q. ap₂ _||_ (in-between a b i q p) (under-between b c i p) ∙ sym (in-between a c i q (omega arith))) (lt-or-ge i a))
+    (λ p. ⊎-elim (λ q. ap₂ _||_ (over-between a b i p) (in-between b c i p q) ∙ sym (in-between a c i (omega arith) q))
+    (λ q. ap₂ _||_ (over-between a b i p) (over-between b c i q) ∙ sym (over-between a c i q)) (lt-or-ge i c))
+    (lt-or-ge i b)
+
 pub between-true : (a b i : ℕ) → between a b i ≡ true → (a ≤ i) × (i < b)
 unfolding between
 between-true a b i h = go (leb a i) (ltb i b) refl refl h

@@ -10,7 +10,7 @@ use lib.ListN.{length, getD, set, length-set}
 use lib.Seq.{ext-getD, getD-set-same, getD-set-other}
 use borrow.Author.Tests.{ne-eqb}
 use Rattle.runs.specs.Runs.{map-from, painted, between}
-use Rattle.runs.proofs.Between.{in-between, over-between, between-more}
+use Rattle.runs.proofs.Between.{in-between, over-between, between-more, between-join}
 
 length-map-from : (f : ℕ → ℕ → ℕ) (k : ℕ) (l : List ℕ) → length (map-from f k l) ≡ length l
 unfolding map-from
@@ -59,6 +59,12 @@ painted-over s t f l =
     go true false x y = refl
     go false true x y = refl
     go false false x y = refl
+
+-- painting on from where a painting ended
+pub painted-on : (a b c : ℕ) (f : ℕ → ℕ) (l : List ℕ) → a ≤ b → b ≤ c → painted (between b c) f (painted (between a b) f l) ≡ painted (between a c) f l
+painted-on a b c f l h k =
+    painted-over (between a b) (between b c) f l
+    ∙ painted-cong _ _ f f l (λ i m. between-join a b c i h k) (λ i m t. refl)
 
 -- painting over a painting by a function of what stands there
 pub painted-again : (s : ℕ → Bool) (f g : ℕ → ℕ) (l : List ℕ) → painted s (λ i. g (getD (painted s f l) i 0)) (painted s f l) ≡ painted s (λ i. g (f i)) l

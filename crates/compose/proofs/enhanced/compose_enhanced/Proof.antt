@@ -10,8 +10,8 @@ mapped-of-requires c κs = search needs
 residuals-of-requires : tie.Need-residuals-of-requires
 residuals-of-requires c κs = search needs
 
-compose-span-requires : tie.Need-compose-span-requires
-compose-span-requires c κs =
+compose-parts-requires : tie.Need-compose-parts-requires
+compose-parts-requires c κs =
     let st : tie.Start = search needs in
     let m : tie.After-mapped-of = search needs in
     let r : tie.After-residuals-of = search needs in
@@ -33,13 +33,13 @@ returns c =
     let st : tie.Start = search needs in
     let m : tie.After-mapped-of = search needs in
     let r : tie.After-residuals-of = search needs in
-    let l : tie.After-compose-span = search needs in
+    let l : tie.After-compose-parts = search needs in
     let a = st .args in
     let p = st .pre .1 .1 in
-    l .compose-span .ensures
+    l .compose-parts .ensures
     ∙ enhanced-looked (a .k) (st .pre .0) (a .codes) (st .pre .1 .0) (a .out) (a .s) (m .mapped-of .result) (m .mapped-of .ensures) (a .base .now) (p .1 .0) (r .residuals-of .result) (r .residuals-of .ensures) (a .enhancement .now) (p .1 .1 .0) (a .output .now)
 
 pub compose-enhanced-spec : {M : Type 1} → statement M
 compose-enhanced-spec =
     tie.close
-    (tie.spec mapped-of-requires residuals-of-requires compose-span-requires same-length returns)
+    (tie.spec mapped-of-requires residuals-of-requires compose-parts-requires same-length returns)
