@@ -6,27 +6,34 @@ ghost use Rattle.runs.specs.Runs.{painted, between, tally};
 ghost use Rattle.jobs.specs.Jobs.{done, is-waiting};
 ghost use Rattle.jobs.specs.Opening.{every-pair, waiting};
 
-pub(crate) fn clear(marks: &mut [u8])
-    ensures { λ _. ⌜ now (marks .exit) ≡ painted every-pair waiting (now (marks .entry)) ⌝ }
+// Writes a value to the marks from `from` up to, but not including, `to`.
+fn put(value: u8, from: usize, to: usize, marks: &mut [u8])
+    requires { ⌜ from ≤ to ⌝ }
+    requires { ⌜ to ≤ length (now marks) ⌝ }
+    ensures { λ _. ⌜ now (marks .exit) ≡ painted (between from to) (λ k. value) (now (marks .entry)) ⌝ }
 {
-    let mut k = 0;
-    while k < marks.len() {
-        marks[k] = 0;
+    let mut k = from;
+    while k < to {
+        marks[k] = value;
         k += 1;
     }
 }
 
-// Marks the row pairs from `from` up to, but not including, `to`.
+// Every row pair waits.
+pub(crate) fn clear(marks: &mut [u8])
+    ensures { λ _. ⌜ now (marks .exit) ≡ painted every-pair waiting (now (marks .entry)) ⌝ }
+{
+    let pairs = marks.len();
+    put(0, 0, pairs, marks);
+}
+
+// The row pairs from `from` up to, but not including, `to` are done.
 pub(crate) fn mark(from: usize, to: usize, marks: &mut [u8])
     requires { ⌜ from ≤ to ⌝ }
     requires { ⌜ to ≤ length (now marks) ⌝ }
     ensures { λ _. ⌜ now (marks .exit) ≡ painted (between from to) done (now (marks .entry)) ⌝ }
 {
-    let mut k = from;
-    while k < to {
-        marks[k] = 1;
-        k += 1;
-    }
+    put(1, from, to, marks);
 }
 
 // How many row pairs wait.

@@ -1,63 +1,23 @@
-use mathlib.Core.Path.{_≡_, refl, sym, ap, _∙_}
-use Prim.Native.Nat.{_-_, _≤_}
-use native.Mathlib.Omega.{arith}
-use lib.ListN.{length, set, length-set}
+use mathlib.Core.Path.{_≡_, refl, _∙_}
+use Prim.Native.Nat.{zero-le}
 use borrow.Author.Needs.{needs}
-use Rattle.runs.specs.Runs.{painted, between}
-use Rattle.runs.proofs.Between.{in-between, between-empty}
-use Rattle.runs.proofs.Painting.{painted-none, painted-more, painted-cong}
-use Rattle.jobs.specs.Opening.{waiting}
+use lib.ListN.{length}
+use Rattle.runs.proofs.Between.{in-between}
+use Rattle.runs.proofs.Painting.{painted-cong}
 use Rattle.jobs.proofs.marks.clear.Statement.{statement}
 use Rattle.jobs.proofs.marks.clear.Tie as tie
 
-abbrev Inv-loop : tie.InvT-loop
-Inv-loop marks₀ k₀ marks k = (k ≤ length marks₀) × ((marks ≡ painted (between 0 k) waiting marks₀) × (length marks ≡ length marks₀))
+put-requires : tie.Need-put-requires
+put-requires c κs = search needs
 
-abbrev μ-loop : tie.MeasureT-loop
-μ-loop marks₀ k₀ marks k = length marks₀ - k
+same-length : tie.Need-same-length
+same-length c = search needs
 
-loop-holds : tie.Need-loop-holds Inv-loop μ-loop
-loop-holds c = (omega arith, (sym (painted-none _ _ _ (λ i b. between-empty _ i)), refl))
-
-slice-write-marks : tie.Need-slice-write-marks Inv-loop μ-loop
-slice-write-marks c = omega arith
-
-add-k : tie.Need-add-k Inv-loop μ-loop
-add-k c = omega arith
-
-loop-less : tie.Need-loop-less Inv-loop μ-loop
-loop-less c = omega arith
-
-loop-again : tie.Need-loop-again Inv-loop μ-loop
-loop-again c =
-    let st : tie.Start Inv-loop μ-loop = search needs in
-    let l : tie.At-loop Inv-loop μ-loop = search needs in (
-      omega arith,
-      (
-        ap (λ m. set m (l .loop .k) 0) (l .loop .inv .1 .0) ∙ painted-more 0 (l .loop .k) waiting (st .args .marks .now) 0 (omega arith) (omega arith) refl,
-        simp length-set (omega arith),
-      ),
-    )
-
-same-length : tie.Need-same-length Inv-loop μ-loop
-same-length c = let l : tie.At-loop Inv-loop μ-loop = search needs in l .loop .inv .1 .1
-
-returns : tie.Need-returns Inv-loop μ-loop
+returns : tie.Need-returns
 returns c =
-    let st : tie.Start Inv-loop μ-loop = search needs in
-    let l : tie.At-loop Inv-loop μ-loop = search needs in
-    l .loop .inv .1 .0 ∙ painted-cong _ _ _ _ (st .args .marks .now) (λ i b. in-between 0 (l .loop .k) i (omega arith) (omega arith)) (λ i b t. refl)
+    let st : tie.Start = search needs in
+    let p : tie.After-put = search needs in
+    p .put .ensures ∙ painted-cong _ _ _ _ _ (λ i b. in-between 0 (length (st .args .marks .now)) i zero-le b) (λ i b t. refl)
 
 pub clear-spec : {M : Type 1} → statement M
-clear-spec =
-    tie.close
-    (tie.spec
-    Inv-loop
-    μ-loop
-    loop-holds
-    slice-write-marks
-    add-k
-    loop-less
-    loop-again
-    same-length
-    returns)
+clear-spec = tie.close (tie.spec put-requires same-length returns)

@@ -6,15 +6,14 @@ use borrow.Author.Needs.{needs}
 use Rattle.runs.specs.Runs.{painted, between}
 use Rattle.runs.proofs.Between.{between-empty}
 use Rattle.runs.proofs.Painting.{painted-none, painted-more}
-use Rattle.jobs.specs.Jobs.{done}
-use Rattle.jobs.proofs.marks.mark.Statement.{statement}
-use Rattle.jobs.proofs.marks.mark.Tie as tie
+use Rattle.jobs.proofs.marks.put.Statement.{statement}
+use Rattle.jobs.proofs.marks.put.Tie as tie
 
 abbrev Inv-loop : tie.InvT-loop
-Inv-loop from to marks₀ k₀ marks k = (from ≤ k) × ((k ≤ to) × ((marks ≡ painted (between from k) done marks₀) × (length marks ≡ length marks₀)))
+Inv-loop value from to marks₀ k₀ marks k = (from ≤ k) × ((k ≤ to) × ((marks ≡ painted (between from k) (λ i. value) marks₀) × (length marks ≡ length marks₀)))
 
 abbrev μ-loop : tie.MeasureT-loop
-μ-loop from to marks₀ k₀ marks k = to - k
+μ-loop value from to marks₀ k₀ marks k = to - k
 
 loop-holds : tie.Need-loop-holds Inv-loop μ-loop
 loop-holds c = (omega arith, (omega arith, (sym (painted-none _ _ _ (λ i b. between-empty _ i)), refl)))
@@ -36,7 +35,7 @@ loop-again c =
       (
         omega arith,
         (
-          ap (λ m. set m (l .loop .k) 1) (l .loop .inv .1 .1 .0) ∙ painted-more (st .args .from) (l .loop .k) done (st .args .marks .now) 1 (omega arith) (omega arith) refl,
+          ap (λ m. set m (l .loop .k) (st .args .value)) (l .loop .inv .1 .1 .0) ∙ painted-more (st .args .from) (l .loop .k) (λ i. st .args .value) (st .args .marks .now) (st .args .value) (omega arith) (omega arith) refl,
           simp length-set (omega arith),
         ),
       ),
@@ -50,10 +49,10 @@ returns c =
     let st : tie.Start Inv-loop μ-loop = search needs in
     let l : tie.At-loop Inv-loop μ-loop = search needs in
     let e : l .loop .k ≡ st .args .to = omega arith in
-    l .loop .inv .1 .1 .0 ∙ ap (λ (n : ℕ). painted (between (st .args .from) n) done (st .args .marks .now)) e
+    l .loop .inv .1 .1 .0 ∙ ap (λ (n : ℕ). painted (between (st .args .from) n) (λ i. st .args .value) (st .args .marks .now)) e
 
-pub mark-spec : {M : Type 1} → statement M
-mark-spec =
+pub put-spec : {M : Type 1} → statement M
+put-spec =
     tie.close
     (tie.spec
     Inv-loop
