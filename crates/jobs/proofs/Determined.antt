@@ -1,4 +1,4 @@
--- What the promises of `open_picture` and `compose_job` allow: one answer, and one content of each lent run. Assumes nothing.
+-- What the promises allow: one answer, and of `open_picture` and `compose_job` one content of each lent run. Assumes nothing.
 use mathlib.Core.Path.{_≡_, sym, _∙_}
 use contract.Lifetimes.{Lfts}
 use borrow.Fn.Kinds.{endedOf}
@@ -8,6 +8,15 @@ use denote.Ref.{now}
 use Rattle.jobs.proofs.open_picture as opening
 use Rattle.jobs.proofs.open_picture.Kinds as opening-kinds
 use Rattle.jobs.proofs.open_picture.Reads as opening-reads
+use Rattle.jobs.proofs.opened_number as opened
+use Rattle.jobs.proofs.opened_number.Kinds as opened-kinds
+use Rattle.jobs.proofs.opened_number.Reads as opened-reads
+use Rattle.jobs.proofs.number as number
+use Rattle.jobs.proofs.number.Kinds as number-kinds
+use Rattle.jobs.proofs.number.Reads as number-reads
+use Rattle.jobs.proofs.is_complete as complete
+use Rattle.jobs.proofs.is_complete.Kinds as complete-kinds
+use Rattle.jobs.proofs.is_complete.Reads as complete-reads
 use Rattle.jobs.proofs.compose_job as job
 use Rattle.jobs.proofs.compose_job.Kinds as job-kinds
 use Rattle.jobs.proofs.compose_job.Reads as job-reads
@@ -28,3 +37,15 @@ module _ (κs : Lfts 4) (a : ArgsD job.signature κs) (r r' : ResD job.signature
 
   pub one-marking : now (s .1 .1 .1 .1 .1 .1 .1 .1 .0) ≡ now (s' .1 .1 .1 .1 .1 .1 .1 .1 .0)
   one-marking = p .1 .1 ∙ sym (q .1 .1)
+
+module _ (κs : Lfts 0) (a : ArgsD opened.signature κs) (r r' : ResD opened.signature κs) (s s' : AtExit (endedOf 0 opened-kinds.ps opened-kinds.r) κs) where
+  pub one-opened-number : opened-reads.Post κs a r s → opened-reads.Post κs a r' s' → r ≡ r'
+  one-opened-number p q = p ∙ sym q
+
+module _ (κs : Lfts 0) (a : ArgsD number.signature κs) (r r' : ResD number.signature κs) (s s' : AtExit (endedOf 0 number-kinds.ps number-kinds.r) κs) where
+  pub one-number : number-reads.Post κs a r s → number-reads.Post κs a r' s' → r ≡ r'
+  one-number p q = p ∙ sym q
+
+module _ (κs : Lfts 0) (a : ArgsD complete.signature κs) (r r' : ResD complete.signature κs) (s s' : AtExit (endedOf 0 complete-kinds.ps complete-kinds.r) κs) where
+  pub one-completeness : complete-reads.Post κs a r s → complete-reads.Post κs a r' s' → r ≡ r'
+  one-completeness p q = p ∙ sym q
