@@ -22,15 +22,22 @@ def all_blocks(good):
 
     left_over = (good[:cb] + b"\0" + good[cb:t]
                  + struct.pack(">4H", a + 1, d0 + 1, d1, d2) + good[t + 8:])
-    cut_section = (good[:cb - 1] + good[cb:t]
-                   + struct.pack(">4H", a - 1, d0 - 1, d1, d2) + good[t + 8:])
+
+    def cut(end, size):
+        """Without the last bytes of the section that ends there: section 0, or section 2."""
+        last = size if end == t else 0
+        return (good[:end - size] + good[end:t]
+                + struct.pack(">4H", a - size, d0 - size, d1 - last, d2 - last) + good[t + 8:])
+
     return [
         ("block", good),
         ("cut_off", good[-11:]),
         ("points_too_far", good[-40:]),
         ("no_trailer", edited(t + 9, 2)),
         ("left_over", left_over),
-        ("cut_section", cut_section),
+        ("cut_section", cut(cb, 1)),
+        ("cut_before_a_field", cut(cb, 5)),
+        ("cut_last_section", cut(t, 4)),
         ("profile_two", edited(header, 2)),
         ("denominator_33", edited(header + 2, 33)),
         ("depths_differ", edited(header + 4, 0)),

@@ -5,8 +5,7 @@ use crate::numbers::two;
 use crate::say;
 use crate::say_number;
 use crate::section::say_in_section;
-ghost use Prim.Native.Nat.{_^_, _<_, _≤_};
-ghost use lib.ListN.{length};
+ghost use Prim.Native.Nat.{_≤_};
 
 // The byte at a distance back from t, 0 where there is none.
 fn back(t: usize, distance: usize) -> usize
@@ -78,8 +77,10 @@ fn part_at(tail: &[u8], t: usize, place: usize) -> Part {
     }
 }
 
-// Rule 3.
-fn say_end(part: Part) {
+// Rule 3. A field that has no byte left begins at its section's end, where the next section begins, and no section's first byte
+// is met by this rule: so the byte before tells the section.
+fn say_end(tail: &[u8], t: usize, place: usize) {
+    let part = part_at(tail, t, back(place, 1));
     say(b"section ");
     say_number(part.k);
     say(b" is bytes ");
@@ -131,7 +132,7 @@ pub(crate) fn say_found(number: u8, place: usize, bytes: &[u8]) {
     match number {
         1 => say_short(bytes),
         2 => say_trailer(tail),
-        3 => say_end(part_at(tail, t, place)),
+        3 => say_end(tail, t, place),
         4 => say_header(bytes, place),
         _ => say_part(bytes, t, part_at(tail, t, place), place, tail),
     }
