@@ -6,7 +6,6 @@ use lib.Dec.{ltb, eqb}
 use lib.ListN.{length, take, drop}
 use Rattle.plan.specs.declared.Header.{Header}
 use Rattle.plan.specs.declared.Component.{Component}
-use Rattle.plan.specs.declared.Plan.{Plan}
 use Rattle.plan.specs.Ranges.{all, header-fits}
 use Rattle.plan.specs.Rule7.{no-plan}
 use Rattle.block.specs.declared.Reading.{Reading}

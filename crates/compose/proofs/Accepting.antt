@@ -1,23 +1,20 @@
 -- The refusals in two parts, before and after the samples are looked at, and what a call that is not refused has been given. Assumes nothing.
-use mathlib.Core.Path.{_≡_, refl, sym, ap, ap₂, _∙_, subst}
+use mathlib.Core.Path.{_≡_, refl, sym, ap₂, _∙_, subst}
 use mathlib.Core.Bool.{Bool, true, false, not, _&&_, _||_, cond, or-true, true≢false}
 use mathlib.Core.List.{List, [], _∷_}
-use mathlib.Core.Logic.{⊎-elim}
 use Prim.Native.Nat.{ℕ, suc, _+_, _^_, _≤_, _<_}
 use native.Mathlib.Omega.{arith}
 use lib.Dec.{eqb, ltb}
 use lib.ListN.{length, getD}
-use borrow.Author.Tests.{eqb-true, ltb-false, leb-false, eq-eqb, ne-eqb}
+use borrow.Author.Tests.{eqb-true, ltb-false, leb-false, ne-eqb}
 use Rattle.runs.specs.Runs.{painted, some, at-least}
 use Rattle.runs.proofs.Between.{in-between}
-use Rattle.runs.proofs.Testing.{some-cong, some-or, some-false}
+use Rattle.runs.proofs.Testing.{some-cong, some-false}
 use Rattle.plan.specs.declared.Header.{Header}
 use Rattle.plan.specs.declared.Plan.{Plan}
 use Rattle.plan.specs.Rule7.{fitting}
 use Rattle.plan.specs.Refusals.{rule, first-met}
 use Rattle.plan.specs.Facts.{HeaderFacts}
-use Rattle.plan.proofs.Facts.{header-facts}
-use Rattle.compose.specs.declared.Composed.{Composed}
 use Rattle.compose.specs.declared.Composed.the-variants.{Written, Refused}
 use Rattle.compose.specs.declared.places.Places.{Places}
 use Rattle.compose.specs.declared.places.Stretch.{Stretch}
@@ -26,7 +23,7 @@ use Rattle.compose.specs.Places.{PairsGiven, Within, places, in-stretch,
 use Rattle.compose.specs.Planes.{PlaneGiven, PlanesGiven}
 use Rattle.compose.specs.Early.{early-refusal, large-at}
 use Rattle.compose.specs.Composing.{Given, used, wrong-length, wrong-pairs, wrong-sample, refusal, composed-at, answer, output-after, number-of}
-use Rattle.compose.proofs.Geometry.{inside, pairs-places, places-test}
+use Rattle.compose.proofs.Geometry.{inside, pairs-places}
 
 -- ---- the refusal, from its early part and the samples
 abbrev early-of : Given → ℕ → ℕ

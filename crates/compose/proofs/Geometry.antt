@@ -1,12 +1,11 @@
 -- The row pairs of a picture are the three stretches, each of one component. Assumes nothing.
 use mathlib.Core.Path.{_≡_, refl, sym, ap, ap₂, _∙_}
-use mathlib.Core.Bool.{Bool, true, false, _||_, cond, or-false}
+use mathlib.Core.Bool.{Bool, true, false, _||_, or-false}
 use mathlib.Core.List.{List}
 use mathlib.Core.Logic.{⊎-elim}
 use Prim.Native.Nat.{ℕ, _+_, _-_, _*_, _/_, _≤_, _<_}
 use native.Mathlib.Nat.{le-div-iff-mul-le, div-lt-iff-lt-mul, div-div-eq-div-mul, mul-comm, mul-assoc, mul-le-mul-left, mul-le-mul, mul-left-comm}
 use native.Mathlib.Omega.{arith}
-use lib.Dec.{ltb}
 use borrow.Author.Tests.{lt-ltb, le-ltb}
 use Rattle.runs.specs.Runs.{painted, some, between}
 use Rattle.runs.proofs.Between.{lt-or-ge, in-between, under-between, over-between, between-true}

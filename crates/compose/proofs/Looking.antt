@@ -1,9 +1,8 @@
 -- Samples that are looked up in tables made of a kernel are the kernel's. Assumes nothing.
-use mathlib.Core.Path.{_≡_, refl, ap, ap₂, subst, _∙_}
+use mathlib.Core.Path.{_≡_, refl, ap, ap₂, _∙_}
 use mathlib.Core.List.{List}
 use Prim.Native.Nat.{ℕ, _<_, _≤_, _^_}
 use native.Mathlib.Nat.{le-trans, le-of-eq, lt-of-lt-of-le}
-use native.Mathlib.Omega.{arith}
 use lib.IntN.{ℤ, pos, natAbs}
 use lib.Pow.{pow-mono}
 use Rattle.runs.specs.Runs.{painted}

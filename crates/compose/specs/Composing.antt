@@ -1,5 +1,5 @@
 -- The composing process (5.4) over a picture: what stands at each index of the output, and when the call is refused.
-use mathlib.Core.Bool.{Bool, true, false, not, _&&_, _||_, cond}
+use mathlib.Core.Bool.{Bool, not, _&&_, _||_, cond}
 use mathlib.Core.List.{List, [], _∷_}
 use Prim.Native.Nat.{ℕ, _+_, _^_}
 use lib.Dec.{eqb, ltb}

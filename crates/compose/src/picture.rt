@@ -9,16 +9,13 @@ use plan::Component;
 use plan::Header;
 use plan::Plan;
 ghost use mathlib.Core.Path.{_≡_};
-ghost use mathlib.Core.Bool.{true};
-ghost use Prim.Native.Nat.{_+_, _≤_, _^_};
+ghost use Prim.Native.Nat.{_+_};
 ghost use lib.ListN.{length};
 ghost use Rattle.runs.specs.Runs.{painted};
 ghost use Rattle.plan.specs.Facts.{HeaderFacts, ComponentFacts};
-ghost use Rattle.compose.specs.Kernel.{KernelRanges};
-ghost use Rattle.compose.specs.Spans.{SpanGiven};
 ghost use Rattle.compose.specs.Places.{in-stretch};
 ghost use Rattle.compose.specs.Composing.{sample-of};
-ghost use Rattle.compose.specs.Planes.{PlanFacts, PlaneGiven, PlanesGiven, plain-at, enhanced-at, planes-painted};
+ghost use Rattle.compose.specs.Planes.{PlanFacts, PlaneGiven, PlanesGiven, planes-painted};
 
 fn compose_component(
     h: Header,

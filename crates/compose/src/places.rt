@@ -2,7 +2,7 @@
 use crate::limit::largest;
 use plan::Header;
 ghost use mathlib.Core.Path.{_≡_};
-ghost use Prim.Native.Nat.{ℕ, _+_, _*_, _≤_};
+ghost use Prim.Native.Nat.{_+_, _*_, _≤_};
 ghost use lib.ListN.{length};
 ghost use Rattle.runs.specs.Runs.{some, at-least};
 ghost use Rattle.compose.specs.Places.{PairsGiven, Within, places, in-places};

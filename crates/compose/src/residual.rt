@@ -2,8 +2,8 @@
 use crate::signed::power_of_two;
 use plan::Nlq;
 ghost use mathlib.Core.Path.{_≡_};
-ghost use Prim.Native.Nat.{ℕ, _+_, _-_, _*_, _<_, _≤_, _^_};
-ghost use lib.IntN.{ℤ, pos, natAbs, _-ℤ_, _*ℤ_};
+ghost use Prim.Native.Nat.{_+_, _-_, _*_, _<_, _≤_, _^_};
+ghost use lib.IntN.{pos, natAbs, _-ℤ_};
 ghost use Rattle.standard.specs.Residual.{sign-of, scaled, limit, limited, residual};
 ghost use Rattle.plan.specs.Parameters.{quantization};
 ghost use Rattle.compose.specs.Ranges.{ResidualRanges};

@@ -1,6 +1,6 @@
 // Signed numbers out of unsigned ones, and back.
 ghost use mathlib.Core.Path.{_≡_};
-ghost use Prim.Native.Nat.{ℕ, _*_, _≤_, _^_};
+ghost use Prim.Native.Nat.{_*_, _≤_, _^_};
 ghost use lib.IntN.{pos};
 ghost use Rattle.standard.specs.Mapping.{from-zero};
 

@@ -7,7 +7,7 @@ use crate::reconstruction::reconstruct;
 use crate::residual::residual_of;
 ghost use mathlib.Core.Path.{_≡_};
 ghost use Prim.Native.Nat.{ℕ, _<_, _≤_, _^_};
-ghost use lib.IntN.{pos, natAbs};
+ghost use lib.IntN.{pos};
 ghost use Rattle.standard.specs.Residual.{residual};
 ghost use Rattle.standard.specs.Reconstruction.{reconstructed};
 ghost use Rattle.plan.specs.Parameters.{quantization};

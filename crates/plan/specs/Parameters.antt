@@ -1,6 +1,6 @@
 -- What a plan gives the composing process: the parameters under the standard's names.
-use Prim.Native.Nat.{ℕ, _+_}
-use lib.IntN.{ℤ, pos}
+use Prim.Native.Nat.{_+_}
+use lib.IntN.{pos}
 use lib.ListN.{getD}
 use Rattle.standard.specs.Parameters.{Depths, Mapping, Quantization}
 use Rattle.plan.specs.declared.Header.{Header}

@@ -1,5 +1,5 @@
 -- The worked examples hold: the definitions compute, and E4 and E5, which hold of every sample, need two laws of powers. Assumes nothing.
-use mathlib.Core.Path.{_≡_, refl}
+use mathlib.Core.Path.{refl}
 use native.Mathlib.Nat.{pow-zero, zero-mul}
 use Rattle.standard.specs.Mapping.{mapped, polynomial, piece, pivot-idx, first-above, pivot-value, poly-sum}
 use Rattle.standard.specs.Residual.{residual}

@@ -1,7 +1,7 @@
 -- The worked examples: E1 to E14 of the house rules as one statement about `mapped`, and residuals worked by hand.
 use mathlib.Core.Path.{_≡_}
 use mathlib.Core.List.{List, [], _∷_}
-use Prim.Native.Nat.{ℕ, zero, suc, _<_}
+use Prim.Native.Nat.{ℕ}
 use lib.IntN.{ℤ, pos, negℤ}
 use lib.ListN.{getD}
 use Rattle.standard.specs.Parameters.{Mapping, Quantization, fp}

@@ -1,11 +1,11 @@
 -- A machine word of 64 bits that holds an integer within a bound. A bound is a number that antt computes, so that each step is shown by `tt`. Assumes nothing.
-use mathlib.Core.Path.{_≡_, refl, sym, ap, _∙_, subst}
-use Prim.Native.Nat.{ℕ, zero, suc, _+_, _*_, _-_, _^_, _<_, _≤_, suc-le-suc}
-use native.Mathlib.Nat.{le-trans, le-refl, le-of-eq, div-le-self}
+use mathlib.Core.Path.{_≡_, ap, _∙_}
+use Prim.Native.Nat.{ℕ, _+_, _*_, _-_, _^_, _<_, _≤_}
+use native.Mathlib.Nat.{le-trans, le-refl, le-of-eq}
 use native.Mathlib.Omega.{arith}
 use lib.Pow.{pow-mono}
-use lib.Dec.{T, ltb, leb, leb→le, ltb→lt}
-use lib.IntN.{ℤ, pos, negsuc, natAbs, _+ℤ_, _-ℤ_, _*ℤ_}
+use lib.Dec.{T, ltb, ltb→lt}
+use lib.IntN.{ℤ, pos, natAbs, _+ℤ_, _-ℤ_, _*ℤ_}
 use lib.Signed.{mag, shrZ, mag-shr}
 use mir.Syntax.{w64}
 use mir.Val.{SFits, toZ, ofZ}

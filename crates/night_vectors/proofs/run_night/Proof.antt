@@ -1,6 +1,5 @@
 use mathlib.Core.Path.{_≡_}
 use borrow.Author.Needs.{needs}
-use native.Mathlib.Omega.{arith}
 use lib.ListN.{length}
 use Rattle.night_vectors.proofs.run_night.Statement.{statement}
 use Rattle.night_vectors.proofs.run_night.Tie as tie

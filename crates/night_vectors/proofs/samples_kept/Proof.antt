@@ -1,6 +1,5 @@
 use borrow.Author.Needs.{needs}
 use Prim.Native.Nat.{_≤_, _-_}
-use native.Mathlib.Omega.{arith}
 use lib.ListN.{length}
 use Rattle.night_vectors.proofs.samples_kept.Statement.{statement}
 use Rattle.night_vectors.proofs.samples_kept.Tie as tie

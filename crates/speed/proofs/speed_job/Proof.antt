@@ -1,4 +1,4 @@
-use mathlib.Core.Path.{_≡_, ap, _∙_}
+use mathlib.Core.Path.{ap, _∙_}
 use borrow.Author.Needs.{needs}
 use Rattle.jobs.specs.Jobs.{answer-number}
 use Rattle.speed.proofs.speed_job.Statement.{statement}

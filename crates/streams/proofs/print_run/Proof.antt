@@ -1,6 +1,5 @@
 use borrow.Author.Needs.{needs}
 use Prim.Native.Nat.{_≤_, _-_}
-use native.Mathlib.Omega.{arith}
 use lib.ListN.{length}
 use Rattle.streams.proofs.print_run.Statement.{statement}
 use Rattle.streams.proofs.print_run.Tie as tie

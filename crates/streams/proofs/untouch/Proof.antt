@@ -1,5 +1,4 @@
 use mathlib.Core.Path.{_≡_, refl}
-use mathlib.Core.Path.{ap, _∙_}
 use borrow.Author.Needs.{needs}
 use Prim.Native.Nat.{_≤_, _-_}
 use native.Mathlib.Omega.{arith}

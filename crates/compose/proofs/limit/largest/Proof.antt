@@ -1,9 +1,8 @@
-use mathlib.Core.Logic.{inl, inr, ⊎-elim}
+use mathlib.Core.Logic.{inl, inr}
 use mathlib.Core.Path.{_≡_}
 use borrow.Author.Needs.{needs}
-use Prim.Native.Nat.{ℕ, _+_, _-_, _<_, _≤_}
+use Prim.Native.Nat.{_-_, _≤_}
 use native.Mathlib.Omega.{arith}
-use lib.ListN.{getD}
 use Rattle.runs.proofs.Largest.{Most, most-none, most-up, most-same, most-some}
 use Rattle.compose.proofs.limit.largest.Statement.{statement}
 use Rattle.compose.proofs.limit.largest.Tie as tie

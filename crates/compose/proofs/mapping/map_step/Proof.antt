@@ -1,4 +1,4 @@
-use mathlib.Core.Path.{_≡_, ap, _∙_}
+use mathlib.Core.Path.{ap, _∙_}
 use borrow.Author.Needs.{needs, sfits-of}
 use native.Mathlib.Nat.{le-trans, mul-le-mul-left}
 use lib.Pow.{pow-mono}

@@ -1,4 +1,4 @@
-use mathlib.Core.Path.{_≡_, _∙_}
+use mathlib.Core.Path.{_∙_}
 use borrow.Author.Needs.{needs}
 use Rattle.compose.proofs.Looking.{indices, plain-looked}
 use Rattle.compose.proofs.plain.compose_plain.Statement.{statement}

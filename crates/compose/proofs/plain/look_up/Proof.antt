@@ -1,12 +1,11 @@
 use mathlib.Core.Path.{_≡_, refl, sym, ap, _∙_}
 use borrow.Author.Needs.{needs}
-use Prim.Native.Nat.{ℕ, _-_, _<_, _≤_}
+use Prim.Native.Nat.{ℕ, _-_, _≤_}
 use native.Mathlib.Omega.{arith}
 use lib.ListN.{length, set, length-set}
 use Rattle.runs.specs.Runs.{painted, between}
 use Rattle.runs.proofs.Between.{between-empty}
 use Rattle.runs.proofs.Painting.{painted-none, painted-more}
-use Rattle.compose.specs.Ranges.{at}
 use Rattle.compose.specs.Spans.{looked-up}
 use Rattle.compose.proofs.plain.look_up.Statement.{statement}
 use Rattle.compose.proofs.plain.look_up.Tie as tie

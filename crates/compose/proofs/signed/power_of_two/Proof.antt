@@ -1,5 +1,5 @@
 use mathlib.Core.Path.{ap, _∙_}
-use borrow.Author.Needs.{needs, sfits-of}
+use borrow.Author.Needs.{sfits-of}
 use Prim.Native.Nat.{_^_}
 use native.Mathlib.Nat.{one-mul, le-trans, le-of-eq}
 use lib.Pow.{pow-mono}

@@ -1,6 +1,5 @@
 use borrow.Author.Needs.{needs}
 use Prim.Native.Nat.{_≤_, _-_}
-use native.Mathlib.Omega.{arith}
 use lib.ListN.{length}
 use Rattle.compose_file.proofs.files.store_all.Statement.{statement}
 use Rattle.compose_file.proofs.files.store_all.Tie as tie

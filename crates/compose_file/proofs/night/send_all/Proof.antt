@@ -1,7 +1,6 @@
 use mathlib.Core.Path.{_≡_, refl}
 use borrow.Author.Needs.{needs}
-use Prim.Native.Nat.{_≤_, _-_, _/_}
-use native.Mathlib.Omega.{arith}
+use Prim.Native.Nat.{_-_}
 use lib.ListN.{length}
 use Rattle.compose_file.proofs.night.send_all.Statement.{statement}
 use Rattle.compose_file.proofs.night.send_all.Tie as tie
