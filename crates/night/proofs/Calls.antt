@@ -4,14 +4,13 @@ use mathlib.Core.Bool.{Bool, true, false, cond}
 use mathlib.Core.List.{List, _∷_}
 use Prim.Native.Nat.{ℕ}
 use lib.ListN.{length}
-use denote.Ref.{now}
 use Rattle.plan.specs.declared.Plan.{Plan}
 use Rattle.jobs.specs.Opening.{opening-accepted, opening-answer, opening-refusal}
 use Rattle.jobs.specs.Jobs.{Job, job-answer, complete}
 use Rattle.jobs.specs.declared.Opened.the-variants.{Open, Refused}
 use Rattle.jobs.specs.declared.Answer.{Answer}
 use Rattle.night.specs.Night.{Memory, step, run, opened}
-use Rattle.night.specs.Calls.{memory, job-of, before, afterwards, Calls, none, more, answers, AnyChainOfCalls}
+use Rattle.night.specs.Calls.{memory, job-of, before, afterwards, Calls, none, more, answers, plan-given, ticket-given, marks-given, marks-opened, AnyChainOfCalls}
 use Rattle.night.proofs.Night.{standby-night}
 
 as-run : {m n : Memory} {js : List Job} {rs : List Answer} → Calls m js rs n → (n ≡ run js m) × (rs ≡ answers js m)
@@ -32,11 +31,11 @@ opened-as p ticket n handed h = go (opening-accepted p n) refl h
 
 pub any-chain-of-calls : AnyChainOfCalls
 any-chain-of-calls κs a r s post handed opens base enhancement output js rs m calls ks =
-    let p : Plan = a .0 in
-    let marks : List ℕ = now (a .1 .1 .0) in
-    let start : memory output (now (s .1 .1 .0)) ≡ opened p output marks = ap (memory output) (post .1) in
+    let p = plan-given κs a in
+    let marks = marks-given κs a in
+    let start : memory output (marks-opened κs a s) ≡ opened p output marks = ap (memory output) (post .1) in
     let memory-is : m ≡ run js (opened p output marks) = as-run calls .0 ∙ ap (run js) start in
-    let opening = opened-as p (a .1 .0) (length marks) handed (sym (post .0) ∙ opens) in
+    let opening = opened-as p (ticket-given κs a) (length marks) handed (sym (post .0) ∙ opens) in
     let finished = standby-night p base enhancement output marks js (opening .0) ks in (
       opening .1,
       record {

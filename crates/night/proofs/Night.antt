@@ -18,7 +18,7 @@ use Rattle.jobs.specs.Opening.{every-pair, waiting, opening-refusal, opening-ac
 use Rattle.jobs.specs.Jobs.{Job, accepted, names, sample, done, is-waiting, output-after, marks-after, job-answer, complete}
 use Rattle.jobs.specs.declared.Answer.the-variants.{Done}
 use Rattle.jobs.proofs.Samples.{same-sample}
-use Rattle.night.specs.Night.{Memory, step, run, opened, named, count-below, rows-left-after, Keeps, AllKeep, none, more, StandbyNight}
+use Rattle.night.specs.Night.{Memory, step, run, opened, named, count-below, rows-left-after, Keeps, AllKeep, none, more, Sent, here, later, StandbyNight}
 use Rattle.night.proofs.Counting.{count-cong, left-waiting}
 
 -- an accepted opening found a mark for each row pair, and cleared them all
@@ -89,6 +89,28 @@ named-last a b (i ∷ js) j k =
     ap (λ (u : Bool). (accepted i a b && names i k) || u) (named-last a b js j k)
     ∙ sym (or-assoc (accepted i a b && names i k) (named a b js k) (accepted j a b && names j k))
 
+-- ---- a job that was sent before, sent again
+again : (x y : Bool) → ((x || y) || x) ≡ (x || y)
+again true y = refl
+again false true = refl
+again false false = refl
+
+absorbed : (a b : ℕ) {j : Job} {js : List Job} (k : ℕ) → Sent j js → (named a b js k || (accepted j a b && names j k)) ≡ named a b js k
+unfolding named
+absorbed a b {j} k (here {js}) = again (accepted j a b && names j k) (named a b js k)
+absorbed a b {j} k (later {i} {js} s) =
+    or-assoc (accepted i a b && names i k) (named a b js k) (accepted j a b && names j k)
+    ∙ ap (λ (u : Bool). (accepted i a b && names i k) || u) (absorbed a b k s)
+
+module _ {p : Plan} {base enhancement : List ℕ} {a b : ℕ} where
+  keeps-of : {j : Job} {js : List Job} → AllKeep p base enhancement a b js → Sent j js → Keeps p base enhancement a b j
+  keeps-of (more k ks) here = k
+  keeps-of (more k ks) (later s) = keeps-of ks s
+
+  keep-also : {j : Job} {js : List Job} → AllKeep p base enhancement a b js → Keeps p base enhancement a b j → AllKeep p base enhancement a b (js ++ (j ∷ []))
+  keep-also none k = more k none
+  keep-also (more l ks) k = more l (keep-also ks k)
+
 answer-done : (j : Job) (m : Memory) (a b : ℕ) → length (m .output) ≡ a → length (m .marks) ≡ b → accepted j a b ≡ true → job-answer j (m .output) (m .marks) ≡ Done (tally is-waiting (step j m .marks))
 unfolding job-answer
 answer-done j m a b e f h = let t : accepted j (length (m .output)) (length (m .marks)) ≡ true = ap₂ (accepted j) e f ∙ h in rw t
@@ -100,6 +122,7 @@ standby-night p base enhancement output marks js fits ks =
       others = λ i l h. at i l ∙ ap (λ (u : Bool). cond u (composed-at p base enhancement i) (getD output i 0)) h;
       size = output-size;
       rows-left = λ j k h. let is-done = done-with j k h in (is-done, ap complete is-done);
+      sent-again = sent-again;
     }
   where
     a : ℕ
@@ -140,3 +163,15 @@ standby-night p base enhancement output marks js fits ks =
         (left-waiting _ marks
         ∙ ap (count-below _) (opening-marked p b fits)
         ∙ count-cong _ _ (p .header .pairs) (λ i l. ap not (sym (named-last a b js j i))))
+
+    sent-again : (j : Job) → Sent j js → run (js ++ (j ∷ [])) begin ≡ run js begin
+    sent-again j s =
+        let ls = keep-also ks (keeps-of ks s) in
+        let same : (k : ℕ) → named a b (js ++ (j ∷ [])) k ≡ named a b js k = λ k. named-last a b js j k ∙ absorbed a b k s in
+        ap₂ (λ (o m : List ℕ). record { output = o; marks = m })
+        (run-output p base enhancement a b (js ++ (j ∷ [])) begin ls refl begin-marks
+        ∙ painted-cong _ _ _ _ output (λ i l. same (pair-at (p .header) i)) (λ i l t. refl)
+        ∙ sym (run-output p base enhancement a b js begin ks refl begin-marks))
+        (run-marks p base enhancement a b (js ++ (j ∷ [])) begin ls refl begin-marks
+        ∙ painted-cong _ _ _ _ (begin .marks) (λ i l. same i) (λ i l t. refl)
+        ∙ sym (run-marks p base enhancement a b js begin ks refl begin-marks))

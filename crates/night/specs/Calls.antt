@@ -59,11 +59,25 @@ module _ (p : Plan) (base enhancement output marks : List ℕ) (js : List Job) w
         (let left = rows-left-after p (length output) (length marks) (js ++ (job-of κs a ∷ [])) in
         (r ≡ Done left) × (complete r ≡ eqb left 0))
 
+-- ---- a call of `open_picture`: what it was given, and the marks after it
+module _ (κs : Lfts 1) (a : ArgsD opening.signature κs) where
+  abbrev pub plan-given : Plan
+  plan-given = a .0
+
+  abbrev pub ticket-given : ℕ
+  ticket-given = a .1 .0
+
+  abbrev pub marks-given : List ℕ
+  marks-given = now (a .1 .1 .0)
+
+  abbrev pub marks-opened : AtExit (endedOf 1 opening-kinds.ps opening-kinds.r) κs → List ℕ
+  marks-opened s = now (s .1 .1 .0)
+
 -- a call of `open_picture` that hands a ticket back, and then any calls of `compose_job` that keep demand 3's premises
 abbrev pub AnyChainOfCalls : Type 0
 AnyChainOfCalls =
     (κs : Lfts 1) (a : ArgsD opening.signature κs) (r : ResD opening.signature κs) (s : AtExit (endedOf 1 opening-kinds.ps opening-kinds.r) κs) → opening-reads.Post κs a r s →
     (handed : ℕ) → r ≡ Open handed →
-    (base enhancement output : List ℕ) (js : List Job) (rs : List Answer) (m : Memory) → Calls (memory output (now (s .1 .1 .0))) js rs m →
-    AllKeep (a .0) base enhancement (length output) (length (now (a .1 .1 .0))) js →
-    (handed ≡ a .1 .0) × CallsStayFinished (a .0) base enhancement output (now (a .1 .1 .0)) js rs m
+    (base enhancement output : List ℕ) (js : List Job) (rs : List Answer) (m : Memory) → Calls (memory output (marks-opened κs a s)) js rs m →
+    AllKeep (plan-given κs a) base enhancement (length output) (length (marks-given κs a)) js →
+    (handed ≡ ticket-given κs a) × CallsStayFinished (plan-given κs a) base enhancement output (marks-given κs a) js rs m

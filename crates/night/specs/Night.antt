@@ -54,6 +54,11 @@ pub data AllKeep (p : Plan) (base enhancement : List ℕ) (a b : ℕ) : List Job
   none : AllKeep p base enhancement a b []
   more : {j : Job} {js : List Job} → Keeps p base enhancement a b j → AllKeep p base enhancement a b js → AllKeep p base enhancement a b (j ∷ js)
 
+-- job j is one of a sequence
+pub data Sent (j : Job) : List Job → Type 0 where
+  here : {js : List Job} → Sent j (j ∷ js)
+  later : {i : Job} {js : List Job} → Sent j js → Sent j (i ∷ js)
+
 -- what demand 3 says after the jobs js, and of one job more
 pub record StaysFinished (p : Plan) (base enhancement output marks : List ℕ) (js : List Job) : Type 0 where
   -- each row pair that some accepted job named holds what demand 2 says
@@ -68,6 +73,8 @@ pub record StaysFinished (p : Plan) (base enhancement output marks : List ℕ) (
       (let answer = job-answer j (run js (opened p output marks) .output) (run js (opened p output marks) .marks) in
       let left = rows-left-after p (length output) (length marks) (js ++ (j ∷ [])) in
       (answer ≡ Done left) × (complete answer ≡ eqb left 0))
+  -- and a job that was sent before changes nothing when it is sent again
+  pub sent-again : (j : Job) → Sent j js → run (js ++ (j ∷ [])) (opened p output marks) ≡ run js (opened p output marks)
 
 -- demand 3, of every plan, picture, memory and sequence of jobs
 abbrev pub StandbyNight : Type 0
