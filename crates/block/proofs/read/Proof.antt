@@ -17,7 +17,10 @@ use Rattle.block.proofs.read.Tie as tie
 tested : (p : tie.Else2) → trailer-fits (meant (p .before .before .read-trailer .result)) ≡ true
 tested p = sym (p .before .trailer-fits .ensures) ∙ not-false _ (p .if2 .left)
 
-passed : (p : tie.Else2) → trailer-fits (trailer (p .before .before .before .before .before .args .bytes .now)) ≡ true
+abbrev start : tie.Else2 → tie.Start
+start p = search needs
+
+passed : (p : tie.Else2) → trailer-fits (trailer (start p .args .bytes .now)) ≡ true
 passed p = rw (p .before .before .read-trailer .ensures) at (tested p)
 
 -- each answer is what reading comes to, and so it is sound

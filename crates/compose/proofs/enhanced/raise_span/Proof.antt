@@ -28,7 +28,7 @@ abbrev μ-loop : tie.MeasureT-loop
 
 -- in the loop: samples are indices of the tables, and the residual is small
 abbrev start : tie.In-loop Inv-loop μ-loop → tie.Start Inv-loop μ-loop
-start il = il .before .before .before .before .before
+start il = search needs
 
 module _ (il : tie.In-loop Inv-loop μ-loop) where
   small : (at (start il .args .base .now) (il .before .loop .i) < 1024) × (at (start il .args .enhancement .now) (il .before .loop .i) < 1024)
