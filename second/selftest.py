@@ -7,6 +7,7 @@ import answers
 import block
 import block_cases
 import composer
+import inspect_block
 import jobs
 import make_vectors
 import night_cases
@@ -546,6 +547,44 @@ def test_night_limits():
         assert len(night.marks) <= 48 and len(night.runs) < answers.NO_RUN
         assert all(len(run) <= 96 for run in night.runs)
         assert not jobs.breaks_rule_7(night.plan)
+
+
+def test_what_is_said():
+    """By hand: the shortest block of depth 10 has its header at byte 0, its sections at 24, 58 and 92, its trailer at 126.
+
+    In a section: 0 the number of pivots, 1 and 3 the pivots, 5 mapping_idc, 6 the order, 7 and 12 the coefficients (an
+    integer byte and a fraction of four), 17 nlq_offset, 19, 24 and 29 the numbers after it.
+    """
+    good = block.write(small_plan())
+    assert len(good) == 138 and inspect_block.inspect("x", good)[1] == "ccm_profile 1"
+
+    def said(*edits):
+        data = bytearray(good)
+        for place, value in edits:
+            data[place] = value
+        name, refusal, found = inspect_block.inspect("x", bytes(data))
+        return refusal.split(":")[0], found
+
+    expected = [
+        ((24, 16), "5 at byte 24", "num_pivots_minus2[0] is 16, allowed 0 to 15"),
+        ((61, 4), "5 at byte 61", "pred_pivot_value[1][1] is 1279, allowed less than 1024"),
+        ((29, 1), "5 at byte 29", "mapping_idc[0][0] is 1, allowed 0"),
+        ((63, 1), "6 at byte 63", "mapping_idc[1][0] is 1, allowed 0"),
+        ((64, 2), "5 at byte 64", "poly_order_minus1[1][0] is 2, allowed 0 to 1"),
+        ((99, 64), "5 at byte 99", "poly_coef_int[2][0][0] is 64, allowed -64 to 63"),
+        ((36, 0xBF), "5 at byte 36", "poly_coef_int[0][0][1] is -65, allowed -64 to 63"),
+        ((39, 0x80), "5 at byte 37", "poly_coef[0][0][1] is 32768, allowed less than 32768"),
+        ((109, 4), "5 at byte 109", "nlq_offset[2] is 1024, allowed less than 1024"),
+        ((48, 2), "5 at byte 48", "linear_deadzone_slope_int[0] is 2, allowed 0 to 1"),
+        ((122, 1), "5 at byte 122", "linear_deadzone_threshold[2] is 16777216, allowed less than 32768"),
+        ((0, 2), "4 at byte 0", "ccm_profile is 2, allowed 1, 3 or 4"),
+        ((137, 1), "2 at byte 126", "A is 126, D0 is 102, D1 is 68, D2 is 34, version is 1, zero is 1, "
+                                    "allowed A = D0 + 24, D0 > D1 > D2 > 0, version 1, zero 0"),
+    ]
+    for edit, refusal, found in expected:
+        assert said(edit) == ("refused " + refusal, found), said(edit)
+    assert inspect_block.inspect("x", good[-11:])[2] == "11 bytes, allowed 12 or more"
+    assert inspect_block.inspect("x", good[1:])[2] == "A is 126, allowed at most 125"
 
 
 def main():
