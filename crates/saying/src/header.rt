@@ -1,4 +1,5 @@
 // Which field of a refused header is outside its column (docs/RULES.md, "Header"), what was found there and what is allowed.
+use crate::found;
 use crate::numbers::four;
 use crate::numbers::one;
 use crate::numbers::two;
@@ -6,19 +7,13 @@ use crate::say;
 use crate::say_number;
 ghost use Prim.Native.Nat.{_^_, _<_};
 
-// Each of these answers whether a field fits, and says so where it does not.
-fn found(name: &[u8], v: usize) {
-    say(name);
-    say(b" is ");
-    say_number(v);
-    say(b", allowed ");
-}
-
+// Each of these answers whether a field fits, and where it does not, says what was found and what is allowed.
 fn either(name: &[u8], v: usize, a: usize, b: usize) -> bool {
     if (v == a) | (v == b) {
         return true;
     }
-    found(name, v);
+    say(name);
+    found(v);
     say_number(a);
     say(b" or ");
     say_number(b);
@@ -30,7 +25,8 @@ fn between(name: &[u8], v: usize, low: usize, high: usize) -> bool {
     if (low <= v) & (v <= high) {
         return true;
     }
-    found(name, v);
+    say(name);
+    found(v);
     say_number(low);
     say(b" to ");
     say_number(high);
@@ -42,7 +38,8 @@ fn zero(name: &[u8], v: usize) -> bool {
     if v == 0 {
         return true;
     }
-    found(name, v);
+    say(name);
+    found(v);
     say(b"0\n");
     false
 }
@@ -51,7 +48,8 @@ fn profile_fits(v: usize) -> bool {
     if (v == 1) | ((v == 3) | (v == 4)) {
         return true;
     }
-    found(b"ccm_profile", v);
+    say(b"ccm_profile");
+    found(v);
     say(b"1, 3 or 4\n");
     false
 }
@@ -60,7 +58,8 @@ fn same_depth(bl: usize, el: usize) -> bool {
     if bl == el {
         return true;
     }
-    found(b"EL_bit_depth_minus8", el);
+    say(b"EL_bit_depth_minus8");
+    found(el);
     say_number(bl);
     say(b", as BL_bit_depth_minus8 is\n");
     false
@@ -73,7 +72,8 @@ fn darkest_fits(v: usize, brightest: usize) -> bool
     if v < limit {
         return true;
     }
-    found(b"min_display_mastering_luminance", v);
+    say(b"min_display_mastering_luminance");
+    found(v);
     say(b"less than ");
     say_number(limit);
     say(b"\n");

@@ -19,6 +19,13 @@ pub fn say_number(n: usize) {
     io::print_decimal(1, n as u64);
 }
 
+// What was found, after a field's name; what is allowed is said next.
+fn found(v: usize) {
+    say(b" is ");
+    say_number(v);
+    say(b", allowed ");
+}
+
 // The absolute value. -1 - z does not wrap, where 0 - z could.
 pub fn size(z: i64) -> u64
     ensures is { λ r. ⌜ r ≡ natAbs z ⌝ }

@@ -1,5 +1,6 @@
 // Which field of a section lies at one of its bytes (docs/RULES.md, "Section"), what was found there and what is allowed. The
 // indices are the standard's: the component, the pivot or the piece, the coefficient.
+use crate::found;
 use crate::numbers::four;
 use crate::numbers::one;
 use crate::numbers::two;
@@ -12,12 +13,6 @@ fn index(i: usize) {
     say(b"[");
     say_number(i);
     say(b"]");
-}
-
-fn found(v: usize) {
-    say(b" is ");
-    say_number(v);
-    say(b", allowed ");
 }
 
 fn less_than(v: usize, limit: usize) {
