@@ -22,7 +22,7 @@ use Rattle.plan.proofs.Anywhere.{anywhere}
 use Rattle.plan.proofs.Coefficients.{row-le, row-zero}
 
 pub header-kept : (h : Header) → header-fits h ≡ true → HeaderFacts h
-unfolding format-fits size-fits most-columns most-pairs
+unfolding format-fits size-fits
 header-kept h e =
     let p = both (format-fits h) (size-fits h) e in
     let f = each (format-tests h) (p .0) in

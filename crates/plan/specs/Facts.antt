@@ -6,25 +6,26 @@ use lib.ListN.{length, getD}
 use Rattle.plan.specs.declared.Header.{Header}
 use Rattle.plan.specs.declared.Component.{Component}
 use Rattle.plan.specs.declared.Plan.{Plan}
-use Rattle.plan.specs.Rule7.{no-piece}
+use Rattle.plan.specs.Ranges.{most-columns, most-pairs, most-n, bl-depth, el-depth}
+use Rattle.plan.specs.Rule7.{pivot-places, piece-places, row-places, no-piece}
 
 -- the header's numbers
 pub record HeaderFacts (h : Header) : Type 0 where
   pub base-depth : h .bl ≤ 2
   pub same-depth : h .el ≡ h .bl
-  pub deep : h .el + 13 ≤ h .d
+  pub deep : el-depth h + 5 ≤ h .d
   pub shallow : h .d ≤ 32
   pub out-depth : h .hdr ≤ 4
   pub some-columns : 1 ≤ h .columns
-  pub few-columns : h .columns ≤ 2048
+  pub few-columns : h .columns ≤ most-columns
   pub some-pairs : 1 ≤ h .pairs
-  pub few-pairs : h .pairs ≤ 1152
+  pub few-pairs : h .pairs ≤ most-pairs
 
 -- the lengths of a plan's arrays, which its type fixes and a record alone does not say
 pub record Arrays (c : Component) : Type 0 where
-  pub preds : length (c .preds) ≡ 17
-  pub pieces : length (c .pieces) ≡ 17
-  pub row : (p : ℕ) → p < 17 → length (getD (c .pieces) p no-piece .row) ≡ 3
+  pub preds : length (c .preds) ≡ pivot-places
+  pub pieces : length (c .pieces) ≡ piece-places
+  pub row : (p : ℕ) → p < piece-places → length (getD (c .pieces) p no-piece .row) ≡ row-places
 
 pub record Sized (p : Plan) : Type 0 where
   pub y : Arrays (p .y)
@@ -33,12 +34,12 @@ pub record Sized (p : Plan) : Type 0 where
 
 -- a component's numbers, at every index: what stands past an array's places is 0
 pub record ComponentFacts (h : Header) (c : Component) : Type 0 where
-  pub count : c .n ≤ 15
-  pub pivot : (i : ℕ) → getD (c .preds) i 0 < 2 ^ (h .bl + 8)
+  pub count : c .n ≤ most-n
+  pub pivot : (i : ℕ) → getD (c .preds) i 0 < 2 ^ bl-depth h
   pub order : (p : ℕ) → getD (c .pieces) p no-piece .order ≤ 1
   pub coefficient : (p i : ℕ) → natAbs (getD (getD (c .pieces) p no-piece .row) i (pos 0)) ≤ 64 * 2 ^ h .d
   pub unused : (p : ℕ) → getD (c .pieces) p no-piece .order ≡ 0 → getD (getD (c .pieces) p no-piece .row) 2 (pos 0) ≡ pos 0
-  pub offset : c .nlq .offset < 2 ^ (h .el + 8)
+  pub offset : c .nlq .offset < 2 ^ el-depth h
   pub maximum : c .nlq .maximum ≤ 2 ^ (h .d + 1)
   pub slope : c .nlq .slope ≤ 2 ^ (h .d + 1)
   pub threshold : c .nlq .threshold ≤ 2 ^ (h .d + 1)

@@ -16,12 +16,25 @@ all (t ∷ ts) = t && all ts
 abbrev pub within : ℕ → ℕ → ℕ → Bool
 within a b x = leb a x && leb x b
 
--- house: the largest W/2 and H/2
-unfoldable pub most-columns : ℕ
+-- house: the largest W/2 and H/2, and the largest num_pivots_minus2
+abbrev pub most-columns : ℕ
 most-columns = 2048
 
-unfoldable pub most-pairs : ℕ
+abbrev pub most-pairs : ℕ
 most-pairs = 1152
+
+abbrev pub most-n : ℕ
+most-n = 15
+
+-- BL_bit_depth, EL_bit_depth and hdr_bit_depth of a header, which carries each less 8
+abbrev pub bl-depth : Header → ℕ
+bl-depth h = h .bl + 8
+
+abbrev pub el-depth : Header → ℕ
+el-depth h = h .el + 8
+
+abbrev pub hdr-depth : Header → ℕ
+hdr-depth h = h .hdr + 8
 
 -- Annex A lists ccm_profile 1, 3 and 4, and ccm_level 0
 abbrev pub listed-profile : ℕ → Bool
@@ -35,7 +48,7 @@ abbrev pub format-tests : Header → List Bool
 format-tests h =
     listed-profile (h .profile) ∷ listed-level (h .level)
     ∷ (eqb (h .bl) 0 || eqb (h .bl) 2) ∷ (eqb (h .el) 0 || eqb (h .el) 2) ∷ eqb (h .bl) (h .el)
-    ∷ within (h .el + 8 + 5) 32 (h .d)
+    ∷ within (el-depth h + 5) 32 (h .d)
     ∷ (eqb (h .hdr) 2 || eqb (h .hdr) 4) ∷ leb (h .disabled) 1 ∷ []
 
 unfoldable pub format-fits : Header → Bool
@@ -55,16 +68,16 @@ header-fits h = format-fits h && size-fits h
 
 -- a section's fields: num_pivots_minus2, a pred_pivot_value, poly_order_minus1, nlq_offset, a fraction
 abbrev pub count-fits : ℕ → Bool
-count-fits n = leb n 15
+count-fits n = leb n most-n
 
 abbrev pub pivot-fits : Header → ℕ → Bool
-pivot-fits h v = ltb v (2 ^ (h .bl + 8))
+pivot-fits h v = ltb v (2 ^ bl-depth h)
 
 abbrev pub order-fits : ℕ → Bool
 order-fits v = leb v 1
 
 abbrev pub offset-fits : Header → ℕ → Bool
-offset-fits h v = ltb v (2 ^ (h .el + 8))
+offset-fits h v = ltb v (2 ^ el-depth h)
 
 abbrev pub fraction-fits : Header → ℕ → Bool
 fraction-fits h v = ltb v (2 ^ h .d)

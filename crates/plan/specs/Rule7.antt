@@ -17,6 +17,16 @@ unfoldable pub every : ℕ → (ℕ → Bool) → Bool
 every zero test = true
 every (suc k) test = every k test && test k
 
+-- how many places a plan has for pivots, for pieces and for the coefficients of a piece
+abbrev pub pivot-places : ℕ
+pivot-places = 17
+
+abbrev pub piece-places : ℕ
+piece-places = 17
+
+abbrev pub row-places : ℕ
+row-places = 3
+
 -- n + 2 pivots, n + 1 pieces, poly_order_minus1 + 2 coefficients are used
 abbrev pub pivots-used : Component → ℕ
 pivots-used c = c .n + 2
@@ -37,7 +47,7 @@ is-zero z = eqb (natAbs z) 0
 -- a row: the first k places keep the range, the others are 0
 unfoldable pub row-fits : Header → ℕ → List ℤ → Bool
 row-fits h k row =
-    every 3
+    every row-places
     (λ j. cond (ltb j k) (coefficient-fits h (getD row j (pos 0))) (is-zero (getD row j (pos 0))))
 
 -- a piece that is used
@@ -50,12 +60,12 @@ piece-empty h q = eqb (q .idc) 0 && (eqb (q .order) 0 && row-fits h 0 (q .row))
 
 unfoldable pub pivots-fit : Header → Component → Bool
 pivots-fit h c =
-    every 17
+    every pivot-places
     (λ i. cond (ltb i (pivots-used c)) (pivot-fits h (getD (c .preds) i 0)) (eqb (getD (c .preds) i 0) 0))
 
 unfoldable pub pieces-fit : Header → Component → Bool
 pieces-fit h c =
-    every 17
+    every piece-places
     (λ p. cond (ltb p (pieces-used c)) (piece-fits h (getD (c .pieces) p no-piece)) (piece-empty h (getD (c .pieces) p no-piece)))
 
 abbrev pub nlq-tests : Header → Nlq → List Bool
@@ -67,19 +77,26 @@ nlq-fits h q = all (nlq-tests h q)
 unfoldable pub component-fits : Header → Component → Bool
 component-fits h c = count-fits (c .n) && (pivots-fit h c && (pieces-fit h c && nlq-fits h (c .nlq)))
 
+-- a header and one of its components that can be computed with
+abbrev pub usable : Header → Component → Bool
+usable h c = header-fits h && component-fits h c
+
 -- the plan passes rule 7
 unfoldable pub fitting : Plan → Bool
 fitting p =
     header-fits (p .header)
     && (component-fits (p .header) (p .y) && (component-fits (p .header) (p .cb) && component-fits (p .header) (p .cr)))
 
--- the plan of zeros, which stands for none: rule 7 refuses it
+-- what stands in a place for a piece that is not used, and the plan of zeros, which stands for none: rule 7 refuses it
+abbrev pub zero-piece : Piece
+zero-piece = record { idc = 0; order = 0; row = replicate row-places (pos 0) }
+
 abbrev pub no-component : Component
 no-component =
     record {
       n = 0;
-      preds = replicate 17 0;
-      pieces = replicate 17 (record { idc = 0; order = 0; row = replicate 3 (pos 0) });
+      preds = replicate pivot-places 0;
+      pieces = replicate piece-places zero-piece;
       nlq = record { offset = 0; maximum = 0; slope = 0; threshold = 0 };
     }
 

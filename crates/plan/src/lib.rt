@@ -1,12 +1,16 @@
 // A plan: every field of a composing block, as a value that travels with each call.
+pub mod limits; // the largest sizes and counts, and the places of a plan's arrays
 pub mod ranges; // the ranges of the header's fields and of a component's numbers
 mod places; // a component's places: those that are used keep their range, the others are 0
 
+use limits::PIECES;
+use limits::PIVOTS;
+use limits::ROW;
 use places::component_fits;
 use ranges::header_fits;
 ghost use mathlib.Core.Bool.{false};
 ghost use mathlib.Core.Path.{_≡_};
-ghost use Rattle.plan.specs.Rule7.{fitting, no-component, no-plan};
+ghost use Rattle.plan.specs.Rule7.{fitting, usable, no-component, no-plan};
 
 // The header's fields (5.3.2), as the block carries them. W is twice `columns`, and H twice `pairs`.
 #[repr(C)]
@@ -29,7 +33,7 @@ pub struct Header {
 pub struct Piece {
     pub idc: u8,
     pub order: u8,
-    pub row: [i64; 3],
+    pub row: [i64; ROW],
 }
 
 // How a component's residual is inverse quantized (5.3.4): nlq_offset, fp_hdr_in_max,
@@ -47,8 +51,8 @@ pub struct Nlq {
 #[repr(C)]
 pub struct Component {
     pub n: u8,
-    pub preds: [u16; 17],
-    pub pieces: [Piece; 17],
+    pub preds: [u16; PIVOTS],
+    pub pieces: [Piece; PIECES],
     pub nlq: Nlq,
 }
 
@@ -75,13 +79,23 @@ pub fn passes(plan: Plan) -> bool
     component_fits(header, y) & (component_fits(header, cb) & component_fits(header, cr))
 }
 
+// Whether one component of a plan can be computed with, for whoever is handed a component alone.
+pub fn is_usable(h: Header, c: Component) -> bool
+    ensures { λ r. ⌜ r ≡ usable h c ⌝ }
+{
+    if !header_fits(h) {
+        return false;
+    }
+    component_fits(h, c)
+}
+
 fn zero_component() -> Component
     ensures { λ r. ⌜ r ≡ no-component ⌝ }
 {
     let piece = Piece {
         idc: 0,
         order: 0,
-        row: [0i64; 3],
+        row: [0i64; ROW],
     };
     let nlq = Nlq {
         offset: 0,
@@ -91,8 +105,8 @@ fn zero_component() -> Component
     };
     Component {
         n: 0,
-        preds: [0u16; 17],
-        pieces: [piece; 17],
+        preds: [0u16; PIVOTS],
+        pieces: [piece; PIECES],
         nlq: nlq,
     }
 }

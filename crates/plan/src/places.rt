@@ -2,6 +2,10 @@
 use crate::Component;
 use crate::Header;
 use crate::Piece;
+use crate::limits::MOST_N;
+use crate::limits::PIECES;
+use crate::limits::PIVOTS;
+use crate::limits::ROW;
 use crate::ranges::coefficient_fits;
 use crate::ranges::nlq_fits;
 use crate::ranges::sample_fits;
@@ -20,7 +24,7 @@ fn coefficient_place(h: Header, used: bool, z: i64) -> bool
 }
 
 // A row of which the first k places are used.
-fn row_fits(h: Header, k: usize, row: [i64; 3]) -> bool
+fn row_fits(h: Header, k: usize, row: [i64; ROW]) -> bool
     requires { ⌜ HeaderFacts h ⌝ }
     ensures { λ r. ⌜ r ≡ row-fits h k row ⌝ }
 {
@@ -74,7 +78,7 @@ fn pivots_fit(h: Header, c: Component) -> bool
     let preds = c.preds;
     let mut fit = true;
     let mut i: usize = 0;
-    while i < 17 {
+    while i < PIVOTS {
         fit = fit & pivot_place(h, i < used, preds[i]);
         i += 1;
     }
@@ -89,7 +93,7 @@ fn pieces_fit(h: Header, c: Component) -> bool
     let pieces = c.pieces;
     let mut fit = true;
     let mut p: usize = 0;
-    while p < 17 {
+    while p < PIECES {
         let q = pieces[p];
         fit = fit & piece_place(h, p < used, q);
         p += 1;
@@ -102,5 +106,5 @@ pub(crate) fn component_fits(h: Header, c: Component) -> bool
     ensures { λ r. ⌜ r ≡ component-fits h c ⌝ }
 {
     let q = c.nlq;
-    (c.n <= 15) & (pivots_fit(h, c) & (pieces_fit(h, c) & nlq_fits(h, q)))
+    (c.n <= MOST_N) & (pivots_fit(h, c) & (pieces_fit(h, c) & nlq_fits(h, q)))
 }

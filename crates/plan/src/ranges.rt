@@ -1,6 +1,8 @@
 // The ranges of the house rules' tables. No test here leans on another, so all are made, and `&` joins them.
 use crate::Header;
 use crate::Nlq;
+use crate::limits::MOST_COLUMNS;
+use crate::limits::MOST_PAIRS;
 ghost use mathlib.Core.Path.{_≡_};
 ghost use mathlib.Core.Bool.{_||_};
 ghost use Prim.Native.Nat.{_+_, _^_, _≤_};
@@ -38,8 +40,8 @@ fn format_fits(h: Header) -> bool
 fn size_fits(h: Header) -> bool
     ensures { λ r. ⌜ r ≡ size-fits h ⌝ }
 {
-    let columns = (1 <= h.columns) & (h.columns <= 2048);
-    let pairs = (1 <= h.pairs) & (h.pairs <= 1152);
+    let columns = (1 <= h.columns) & (h.columns <= MOST_COLUMNS);
+    let pairs = (1 <= h.pairs) & (h.pairs <= MOST_PAIRS);
     let brightest = h.brightest <= 10000;
     // Both luminances in units of 0.0001 cd/m2.
     let darkest = h.darkest < 10000 * (h.brightest as u32);

@@ -11,7 +11,7 @@ mul-darkest : tie.Need-mul-darkest
 mul-darkest c = search needs
 
 returns : tie.Need-returns
-unfolding size-fits most-columns most-pairs
+unfolding size-fits
 returns c = rw and-true
 
 pub size-fits-spec : {M : Type 1} → statement M
