@@ -2,4 +2,3 @@ pub mod Ranges
 pub mod Rule7
 pub mod Parameters
 pub mod Facts
-pub mod Refusals

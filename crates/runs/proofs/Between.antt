@@ -42,6 +42,9 @@ between-more a b i h = ⊎-elim
     (λ q. in-between a (b + 1) i (omega arith) (omega arith) ∙ sym (ap₂ _||_ (over-between a b i k) (eq-eqb i b (omega arith)))) (lt-or-ge b i))
     (lt-or-ge i b)
 
+pub between-one : (k i : ℕ) → between k (k + 1) i ≡ eqb i k
+between-one k i = between-more k k i (omega arith) ∙ ap (λ (u : Bool). u || eqb i k) (between-empty k i)
+
 -- two stretches, one after the other
 pub between-join : (a b c i : ℕ) → a ≤ b → b ≤ c → (between a b i || between b c i) ≡ between a c i
 between-join a b c i h k = ⊎-elim

@@ -1,0 +1,125 @@
+-- The row pairs of a picture are those of its three planes. Assumes nothing.
+use mathlib.Core.Path.{_≡_, refl, sym, ap, ap₂, _∙_}
+use mathlib.Core.Bool.{Bool, true, false, _&&_, _||_, or-false, true≢false}
+use mathlib.Core.List.{List}
+use mathlib.Core.Logic.{⊎-elim}
+use Prim.Native.Nat.{ℕ, _+_, _-_, _*_, _/_, _≤_, _<_}
+use native.Mathlib.Nat.{div-lt-iff-lt-mul, div-div-eq-div-mul, mul-comm, mul-assoc, mul-left-comm}
+use native.Mathlib.Omega.{arith}
+use lib.Dec.{leb}
+use lib.ListN.{length}
+use borrow.Author.Tests.{lt-ltb, le-ltb, le-leb, lt-leb, leb-true}
+use Rattle.runs.specs.Runs.{painted, some}
+use Rattle.runs.proofs.Between.{lt-or-ge}
+use Rattle.runs.proofs.Painting.{length-painted, painted-cong, painted-over}
+use Rattle.runs.proofs.Testing.{some-cong, some-or}
+use Rattle.picture.specs.declared.Extent.{Extent}
+use Rattle.picture.specs.declared.Plane.{Plane}
+use Rattle.picture.specs.Picture.{width, luma-size, chroma-size, picture-size, of-plane, pair-at}
+use Rattle.picture.specs.inner.Planes.{luma-plane, cb-plane, cr-plane, in-rows}
+
+-- luma has four times the samples of a chroma plane
+pub luma-four : (e : Extent) → luma-size e ≡ 4 * chroma-size e
+luma-four e = mul-assoc 2 (e .columns) (2 * e .pairs) ∙ ap (λ (n : ℕ). 2 * n) (mul-left-comm (e .columns) 2 (e .pairs)) ∙ sym (mul-assoc 2 2 (e .columns * e .pairs))
+
+-- what a plane has
+module _ {A : Type 0} (e : Extent) (i : ℕ) (y cb cr : A) where
+  pub of-luma : i < luma-size e → of-plane e i y cb cr ≡ y
+  unfolding of-plane
+  of-luma u = rw (lt-ltb i (luma-size e) u)
+
+  pub of-cb : luma-size e ≤ i → i < luma-size e + chroma-size e → of-plane e i y cb cr ≡ cb
+  unfolding of-plane
+  of-cb u v = rw (le-ltb i (luma-size e) u, lt-ltb i (luma-size e + chroma-size e) v)
+
+  pub of-cr : luma-size e + chroma-size e ≤ i → of-plane e i y cb cr ≡ cr
+  unfolding of-plane
+  of-cr v = let u : luma-size e ≤ i = omega arith in rw (le-ltb i (luma-size e) u, le-ltb i (luma-size e + chroma-size e) v)
+
+both : (a b : Bool) → (a && b) ≡ true → (a ≡ true) × (b ≡ true)
+both true b h = (refl, h)
+both false b h = absurd (true≢false (sym h))
+
+off : (a : Bool) → (a ≡ true → ⊥) → a ≡ false
+off true h = absurd (h refl)
+off false h = refl
+
+-- the samples of a selection of row pairs, each of which is one of the picture's
+module _ (e : Extent) (some-columns : 1 ≤ e .columns) (selected : ℕ → Bool) (few : (k : ℕ) → selected k ≡ true → k < e .pairs) where
+  -- a selected sample of a plane lies before the plane's end
+  ahead : (p : Plane) (i : ℕ) → 1 ≤ p .row → in-rows p selected i ≡ true → (p .start ≤ i) × (i < p .start + e .pairs * p .row)
+  unfolding in-rows
+  ahead p i one h =
+      let s = both (leb (p .start) i) _ h in
+      let b = div-lt-iff-lt-mul one .0 (few _ (s .1)) in
+      let a = leb-true (p .start) i (s .0) in
+      (a, omega arith)
+
+  in-luma : (i : ℕ) → in-rows (luma-plane e) selected i ≡ true → i < luma-size e
+  in-luma i h = let l = luma-four e in let m : e .pairs * (4 * e .columns) ≡ 4 * chroma-size e = mul-left-comm (e .pairs) 4 (e .columns) ∙ ap (λ (n : ℕ). 4 * n) (mul-comm (e .pairs) (e .columns)) in omega (arith, ahead (luma-plane e) i (omega arith) h)
+
+  in-cb : (i : ℕ) → in-rows (cb-plane e) selected i ≡ true → (luma-size e ≤ i) × (i < luma-size e + chroma-size e)
+  in-cb i h = let l = luma-four e in let m = mul-comm (e .pairs) (e .columns) in let a = ahead (cb-plane e) i some-columns h in (omega arith, omega arith)
+
+  in-cr : (i : ℕ) → in-rows (cr-plane e) selected i ≡ true → luma-size e + chroma-size e ≤ i
+  in-cr i h = let l = luma-four e in omega (arith, ahead (cr-plane e) i some-columns h)
+
+  -- one of three tests holds, and the others do not
+  only-1 : (a b c : Bool) → b ≡ false → c ≡ false → ((a || b) || c) ≡ a
+  only-1 a b c h k = rw (h, k) (or-false (a || false) ∙ or-false a)
+
+  only-2 : (a b c : Bool) → a ≡ false → c ≡ false → ((a || b) || c) ≡ b
+  only-2 a b c h k = rw (h, k) (or-false b)
+
+  only-3 : (a b c : Bool) → a ≡ false → b ≡ false → ((a || b) || c) ≡ c
+  only-3 a b c h k = rw (h, k)
+
+  on : (p : Plane) (i k : ℕ) → p .start ≤ i → (i - p .start) / p .row ≡ k → in-rows p selected i ≡ selected k
+  unfolding in-rows
+  on p i k u q = ap₂ (λ (a : Bool) (n : ℕ). a && selected n) (le-leb (p .start) i u) q
+
+  in-planes : (i : ℕ) → ((in-rows (luma-plane e) selected i || in-rows (cb-plane e) selected i) || in-rows (cr-plane e) selected i) ≡ selected (pair-at e i)
+  unfolding pair-at of-plane
+  in-planes i =
+      let l = luma-four e in
+      let y = in-rows (luma-plane e) selected i in
+      let cb = in-rows (cb-plane e) selected i in
+      let cr = in-rows (cr-plane e) selected i in
+      ⊎-elim
+      (λ u.
+      rw (lt-ltb i (luma-size e) u)
+      (only-1 y cb cr (off _ (λ h. omega (arith, in-cb i h))) (off _ (λ h. omega (arith, in-cr i h)))
+      ∙ on (luma-plane e) i _ (omega arith) (ap₂ (λ (a b : ℕ). a / b) (omega arith) (omega arith) ∙ sym (div-div-eq-div-mul i (width e) 2))))
+      (λ u.
+      ⊎-elim
+      (λ v.
+      rw (le-ltb i (luma-size e) u, lt-ltb i (luma-size e + chroma-size e) v)
+      (only-2 y cb cr (off _ (λ h. omega (arith, in-luma i h))) (off _ (λ h. omega (arith, in-cr i h)))
+      ∙ on (cb-plane e) i _ (omega arith) (ap (λ (n : ℕ). (i - n) / e .columns) (sym l))))
+      (λ v.
+      rw (le-ltb i (luma-size e) u, le-ltb i (luma-size e + chroma-size e) v)
+      (only-3 y cb cr (off _ (λ h. omega (arith, in-luma i h))) (off _ (λ h. omega (arith, in-cb i h)))
+      ∙ on (cr-plane e) i _ (omega arith) (ap (λ (n : ℕ). (i - n) / e .columns) (omega arith))))
+      (lt-or-ge i (luma-size e + chroma-size e)))
+      (lt-or-ge i (luma-size e))
+
+  -- a test at the selected row pairs is one in each plane
+  pub some-planes : (test : ℕ → Bool) (run : List ℕ) → some (λ i. selected (pair-at e i)) test run ≡ ((some (in-rows (luma-plane e) selected) test run || some (in-rows (cb-plane e) selected) test run) || some (in-rows (cr-plane e) selected) test run)
+  some-planes test run =
+      some-cong _ _ test run (λ i b. sym (in-planes i))
+      ∙ some-or (λ i. in-rows (luma-plane e) selected i || in-rows (cb-plane e) selected i) (in-rows (cr-plane e) selected) test run
+      ∙ ap (λ (u : Bool). u || some (in-rows (cr-plane e) selected) test run) (some-or (in-rows (luma-plane e) selected) (in-rows (cb-plane e) selected) test run)
+
+  -- three planes painted, each with its own values, are the selected row pairs painted
+  pub painted-planes : (y cb cr : ℕ → ℕ) (run : List ℕ) →
+      painted (in-rows (cr-plane e) selected) cr (painted (in-rows (cb-plane e) selected) cb (painted (in-rows (luma-plane e) selected) y run))
+      ≡ painted (λ i. selected (pair-at e i)) (λ i. of-plane e i (y i) (cb i) (cr i)) run
+  painted-planes y cb cr run =
+      let all : ℕ → ℕ = λ i. of-plane e i (y i) (cb i) (cr i) in
+      painted-cong _ _ _ all _ (λ i b. refl) (λ i b s. sym (of-cr e i _ _ _ (in-cr i s)))
+      ∙ ap (painted _ all)
+      (painted-cong _ _ _ all _ (λ i b. refl) (λ i b s. sym (of-cb e i _ _ _ (in-cb i s .0) (in-cb i s .1)))
+      ∙ ap (painted _ all) (painted-cong _ _ _ all _ (λ i b. refl) (λ i b s. sym (of-luma e i _ _ _ (in-luma i s))))
+      ∙ painted-over _ _ all run)
+      ∙ painted-over _ _ all run
+      ∙ painted-cong _ _ _ _ run (λ i b. in-planes i) (λ i b s. refl)

@@ -1,0 +1,59 @@
+-- A row pair of a plane is a stretch of the run, and so are row pairs that follow each other. Assumes nothing.
+use mathlib.Core.Path.{_≡_, refl, sym, ap, ap₂, _∙_}
+use mathlib.Core.Bool.{Bool, true, false, _&&_, _||_}
+use mathlib.Core.List.{List}
+use mathlib.Core.Logic.{⊎-elim}
+use Prim.Native.Nat.{ℕ, _+_, _-_, _*_, _/_, _≤_, _<_}
+use native.Mathlib.Nat.{le-div-iff-mul-le, div-lt-iff-lt-mul, mul-comm}
+use native.Mathlib.Omega.{arith}
+use lib.Dec.{leb, eqb}
+use borrow.Author.Tests.{le-leb, lt-leb}
+use Rattle.runs.specs.Runs.{painted, between}
+use Rattle.runs.proofs.Between.{lt-or-ge, in-between, under-between, between-true, between-one}
+use Rattle.runs.proofs.Painting.{painted-cong, painted-over}
+use Rattle.picture.specs.declared.Plane.{Plane}
+use Rattle.picture.specs.inner.Planes.{row-start, in-rows}
+
+-- two tests that imply each other are equal
+iff : (a b : Bool) → (a ≡ true → b ≡ true) → (b ≡ true → a ≡ true) → a ≡ b
+iff true b h k = sym (h refl)
+iff false true h k = k refl
+iff false false h k = refl
+
+-- a quotient between two bounds, and a difference
+between-div : (d a b i : ℕ) → 1 ≤ d → between a b (i / d) ≡ between (d * a) (d * b) i
+between-div d a b i some =
+    iff _ _
+    (λ h. let q = between-true a b (i / d) h in in-between (d * a) (d * b) i (rw mul-comm (le-div-iff-mul-le some .0 (q .0))) (rw (mul-comm d b) (div-lt-iff-lt-mul some .0 (q .1))))
+    (λ h. let q = between-true (d * a) (d * b) i h in in-between a b (i / d) (le-div-iff-mul-le some .1 (rw mul-comm (q .0))) (div-lt-iff-lt-mul some .1 (rw (mul-comm b d) (q .1))))
+
+between-sub : (m a b i : ℕ) → m ≤ i → between a b (i - m) ≡ between (m + a) (m + b) i
+between-sub m a b i le =
+    iff _ _
+    (λ h. let q = between-true a b (i - m) h in in-between (m + a) (m + b) i (omega arith) (omega arith))
+    (λ h. let q = between-true (m + a) (m + b) i h in in-between a b (i - m) (omega arith) (omega arith))
+
+-- row pairs that follow each other
+pub rows-between : (p : Plane) (a b i : ℕ) → 1 ≤ p .row → in-rows p (between a b) i ≡ between (row-start p a) (row-start p b) i
+unfolding in-rows
+rows-between p a b i some = ⊎-elim
+    (λ u. ap (λ (x : Bool). x && between a b ((i - p .start) / p .row)) (lt-leb (p .start) i u) ∙ sym (under-between _ _ i (omega arith)))
+    (λ u. ap (λ (x : Bool). x && between a b ((i - p .start) / p .row)) (le-leb (p .start) i u) ∙ between-div (p .row) a b (i - p .start) some ∙ between-sub (p .start) _ _ i u)
+    (lt-or-ge i (p .start))
+
+-- one row pair more
+pub rows-more : (p : Plane) (s t : ℕ → Bool) (k : ℕ) (f : ℕ → ℕ) (l : List ℕ) → 1 ≤ p .row → ((j : ℕ) → (s j || eqb j k) ≡ t j) → painted (between (row-start p k) (row-start p (k + 1))) f (painted (in-rows p s) f l) ≡ painted (in-rows p t) f l
+unfolding in-rows
+rows-more p s t k f l some e =
+    painted-over _ _ f l
+    ∙ painted-cong _ _ f f l
+    (λ i b.
+    ap (λ (x : Bool). in-rows p s i || x) (sym (rows-between p k (k + 1) i some))
+    ∙ joined (leb (p .start) i) (s ((i - p .start) / p .row)) _
+    ∙ ap (λ (x : Bool). leb (p .start) i && (s ((i - p .start) / p .row) || x)) (between-one k ((i - p .start) / p .row))
+    ∙ ap (λ (x : Bool). leb (p .start) i && x) (e ((i - p .start) / p .row)))
+    (λ i b h. refl)
+  where
+    joined : (a x y : Bool) → ((a && x) || (a && y)) ≡ (a && (x || y))
+    joined true x y = refl
+    joined false x y = refl
