@@ -4,3 +4,5 @@ pub mod Testing
 pub mod Counting
 pub mod Filling
 pub mod Largest
+pub mod Greatest
+pub mod Tables

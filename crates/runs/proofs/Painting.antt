@@ -2,15 +2,16 @@
 use mathlib.Core.Path.{_≡_, refl, sym, ap, _∙_, subst}
 use mathlib.Core.Bool.{Bool, true, false, _||_, cond, or-false}
 use mathlib.Core.List.{List, [], _∷_}
-use Prim.Native.Nat.{ℕ, zero, suc, _+_, _≤_, _<_}
+use mathlib.Core.Logic.{⊎-elim}
+use Prim.Native.Nat.{ℕ, zero, suc, _+_, _≤_, _<_, min}
 use native.Mathlib.Nat.{add-zero, zero-add, add-suc, suc-add, le-refl, le-of-suc-le-suc, not-suc-le-zero}
 use native.Mathlib.Omega.{arith}
 use native.Mathlib.Decide.{ℕ-discrete}
 use lib.ListN.{length, getD, set, length-set}
 use lib.Seq.{ext-getD, getD-set-same, getD-set-other}
 use borrow.Author.Tests.{ne-eqb}
-use Rattle.runs.specs.Runs.{map-from, painted, between}
-use Rattle.runs.proofs.Between.{in-between, over-between, between-more, between-join}
+use Rattle.runs.specs.Runs.{map-from, painted, between, below}
+use Rattle.runs.proofs.Between.{lt-or-ge, in-between, over-between, between-empty, between-more, between-join}
 
 length-map-from : (f : ℕ → ℕ → ℕ) (k : ℕ) (l : List ℕ) → length (map-from f k l) ≡ length l
 unfolding map-from
@@ -92,3 +93,29 @@ painted-more a b f l v h k q =
     go : (i : ℕ) → i < length l → Dec (i ≡ b) → getD (set (painted (between a b) f l) b v) i 0 ≡ cond (between a (b + 1) i) (f i) (getD l i 0)
     go i m (yes e) = rw e (getD-set-same (painted (between a b) f l) b v 0 (subst (λ (n : ℕ). b < n) (sym (length-painted (between a b) f l)) k) ∙ q ∙ sym (ap (λ (u : Bool). cond u (f b) (getD l b 0)) (in-between a (b + 1) b h (omega arith))))
     go i m (no n) = getD-set-other (painted (between a b) f l) b i v 0 n ∙ at-painted (between a b) f l i 0 m ∙ ap (λ (u : Bool). cond u (f i) (getD l i 0)) (sym (between-more a b i h ∙ ap (λ (u : Bool). between a b i || u) (ne-eqb i b n) ∙ or-false (between a b i)))
+
+-- a run that a loop paints from the front has its values below i
+pub record PaintedTo (f : ℕ → ℕ) (l : List ℕ) (i : ℕ) (run : List ℕ) : Type 0 where
+  pub is : run ≡ painted (below i) f l
+  pub long : length run ≡ length l
+
+pub paint-none : (f : ℕ → ℕ) (l : List ℕ) → PaintedTo f l 0 l
+paint-none f l = record { is = sym (painted-none _ f l (λ i b. between-empty 0 i)); long = refl }
+
+pub paint-more : {f : ℕ → ℕ} {l : List ℕ} {i : ℕ} {run : List ℕ} {v : ℕ} → PaintedTo f l i run → i < length l → v ≡ f i → PaintedTo f l (i + 1) (set run i v)
+paint-more {f} {l} {i} {run} {v} h b e =
+    record {
+      is = ap (λ r. set r i v) (h .is) ∙ painted-more 0 i f l v (omega arith) b e;
+      long = length-set run i v ∙ h .long;
+    }
+
+-- to the end of the run, or as far as n
+pub paint-all : {f : ℕ → ℕ} {l : List ℕ} {i : ℕ} {run : List ℕ} (n : ℕ) → PaintedTo f l i run → i ≡ min n (length l) → run ≡ painted (below n) f l
+paint-all {f} {l} {i} n h e =
+    h .is
+    ∙ painted-cong (below i) (below n) f f l
+    (λ k b. ⊎-elim
+    (λ p. in-between 0 i k (omega arith) p ∙ sym (in-between 0 n k (omega arith) (omega arith)))
+    (λ p. over-between 0 i k p ∙ sym (over-between 0 n k (omega arith)))
+    (lt-or-ge k i))
+    (λ k b t. refl)

@@ -1,0 +1,58 @@
+-- What stands in a table, and an array of zeros that is filled from the front until it is a table. Assumes nothing.
+use mathlib.Core.Path.{_≡_, refl, sym, ap, subst, _∙_}
+use mathlib.Core.List.{List}
+use mathlib.Core.Logic.{⊎-elim}
+use Prim.Native.Nat.{ℕ, zero, suc, _+_, _<_, _≤_}
+use native.Mathlib.Nat.{le-of-suc-le-suc, not-suc-le-zero}
+use native.Mathlib.Omega.{arith}
+use lib.ListN.{length, getD, set, replicate, length-set, length-replicate}
+use lib.Seq.{ext-getD, getD-set-other}
+use Rattle.runs.specs.Tables.{table}
+use Rattle.runs.proofs.Between.{lt-or-ge}
+use Rattle.runs.proofs.Filling.{filled-more}
+
+pub length-table : (n : ℕ) (f : ℕ → ℕ) → length (table n f) ≡ n
+unfolding table
+length-table zero f = refl
+length-table (suc n) f = ap suc (length-table n (λ i. f (suc i)))
+
+pub at-table : (n : ℕ) (f : ℕ → ℕ) (i : ℕ) → i < n → getD (table n f) i 0 ≡ f i
+unfolding table
+at-table zero f i h = absurd (not-suc-le-zero h)
+at-table (suc n) f zero h = refl
+at-table (suc n) f (suc i) h = at-table n (λ j. f (suc j)) i (le-of-suc-le-suc h)
+
+-- f stands at the places up to i, and 0 at the others
+pub record Filled (n : ℕ) (f : ℕ → ℕ) (i : ℕ) (l : List ℕ) : Type 0 where
+  pub long : length l ≡ n
+  pub done : (j : ℕ) → j < i → getD l j 0 ≡ f j
+  pub rest : (j : ℕ) → i ≤ j → getD l j 0 ≡ 0
+
+zeros : (n j : ℕ) → _≡_ {A = ℕ} (getD (replicate n 0) j 0) 0
+zeros zero j = refl
+zeros (suc n) zero = refl
+zeros (suc n) (suc j) = zeros n j
+
+-- zeros are filled as far as f is 0
+pub fill-none : (n : ℕ) (f : ℕ → ℕ) (i : ℕ) → ((j : ℕ) → j < i → f j ≡ 0) → Filled n f i (replicate n 0)
+fill-none n f i z = record { long = length-replicate n 0; done = λ j h. zeros n j ∙ sym (z j h); rest = λ j h. zeros n j }
+
+-- one store more
+pub fill-more : {n i : ℕ} {f : ℕ → ℕ} {l : List ℕ} {v : ℕ} → Filled n f i l → i < n → v ≡ f i → Filled n f (i + 1) (set l i v)
+fill-more {i = i} {f = f} {l = l} {v = v} h b e =
+    record {
+      long = length-set l i v ∙ h .long;
+      done = filled-more 0 l i v f (omega (arith, h .long)) (h .done) e;
+      rest = λ j k. getD-set-other l i j v 0 (λ e. omega arith) ∙ h .rest j (omega arith);
+    }
+
+-- as far as it was filled the table has f, and from there on 0
+pub fill-all : {n i : ℕ} {f : ℕ → ℕ} {l : List ℕ} (g : ℕ → ℕ) → Filled n f i l → ((j : ℕ) → j < i → j < n → f j ≡ g j) → ((j : ℕ) → i ≤ j → j < n → 0 ≡ g j) → l ≡ table n g
+fill-all {n} {i} {f} {l} g h below above =
+    ext-getD 0 l (table n g) (h .long ∙ sym (length-table n g))
+    (λ j b.
+    let k : j < n = subst (λ (m : ℕ). j < m) (h .long) b in
+    ⊎-elim (λ p. h .done j p ∙ below j p k) (λ p. h .rest j p ∙ above j p k) (lt-or-ge j i) ∙ sym (at-table n g j k))
+
+pub zero-table : (n : ℕ) (g : ℕ → ℕ) → ((j : ℕ) → 0 ≡ g j) → replicate n 0 ≡ table n g
+zero-table n g z = fill-all g (fill-none n g 0 (λ j h. sym (z j))) (λ j h b. refl) (λ j h b. z j)
