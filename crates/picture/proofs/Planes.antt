@@ -4,7 +4,7 @@ use mathlib.Core.Bool.{Bool, true, false, _&&_, _||_, or-false, true≢false}
 use mathlib.Core.List.{List}
 use mathlib.Core.Logic.{⊎-elim}
 use Prim.Native.Nat.{ℕ, _+_, _-_, _*_, _/_, _≤_, _<_}
-use native.Mathlib.Nat.{div-lt-iff-lt-mul, div-div-eq-div-mul, mul-comm, mul-assoc, mul-left-comm}
+use native.Mathlib.Nat.{div-lt-iff-lt-mul, div-div-eq-div-mul, mul-comm, mul-assoc, mul-left-comm, mul-le-mul-left}
 use native.Mathlib.Omega.{arith}
 use lib.Dec.{leb}
 use lib.ListN.{length}
@@ -16,11 +16,39 @@ use Rattle.runs.proofs.Testing.{some-cong, some-or}
 use Rattle.picture.specs.declared.Extent.{Extent}
 use Rattle.picture.specs.declared.Plane.{Plane}
 use Rattle.picture.specs.Picture.{width, luma-size, chroma-size, picture-size, of-plane, pair-at}
-use Rattle.picture.specs.inner.Planes.{luma-plane, cb-plane, cr-plane, in-rows}
+use Rattle.picture.specs.inner.Planes.{luma-plane, cb-plane, cr-plane, row-start, in-rows, InPlane, InPicture}
 
 -- luma has four times the samples of a chroma plane
 pub luma-four : (e : Extent) → luma-size e ≡ 4 * chroma-size e
 luma-four e = mul-assoc 2 (e .columns) (2 * e .pairs) ∙ ap (λ (n : ℕ). 2 * n) (mul-left-comm (e .columns) 2 (e .pairs)) ∙ sym (mul-assoc 2 2 (e .columns * e .pairs))
+
+-- row pairs of a picture are row pairs of each of its planes
+module _ (e : Extent) (first last n : ℕ) (g : InPicture e first last n) where
+  ends : e .columns * last ≤ chroma-size e
+  ends = mul-le-mul-left (e .columns) (g .within)
+
+  pub in-luma-plane : InPlane (luma-plane e) first last n
+  in-luma-plane =
+      let l = luma-four e in
+      let b = ends in
+      let m = mul-assoc 4 (e .columns) last in
+      record { some-columns = omega (arith, g .some-columns); forward = g .forward; within = omega (arith, g .whole) }
+
+  pub in-cb-plane : InPlane (cb-plane e) first last n
+  in-cb-plane =
+      let l = luma-four e in
+      let b = ends in
+      record { some-columns = g .some-columns; forward = g .forward; within = omega (arith, g .whole) }
+
+  pub in-cr-plane : InPlane (cr-plane e) first last n
+  in-cr-plane =
+      let l = luma-four e in
+      let b = ends in
+      record { some-columns = g .some-columns; forward = g .forward; within = omega (arith, g .whole) }
+
+-- a row pair that is named begins where it ends, or before
+pub starts-le : (p : Plane) (first last n : ℕ) → InPlane p first last n → row-start p first ≤ row-start p last
+starts-le p first last n g = let m = mul-le-mul-left (p .row) (g .forward) in omega arith
 
 -- what a plane has
 module _ {A : Type 0} (e : Extent) (i : ℕ) (y cb cr : A) where

@@ -1,7 +1,8 @@
 -- A picture in memory (the house rules): one run of samples, luma by rows, then Cb, then Cr; and its row pairs.
-use mathlib.Core.Bool.{cond}
+use mathlib.Core.Bool.{Bool, cond}
 use Prim.Native.Nat.{ℕ, _+_, _-_, _*_, _/_}
 use lib.Dec.{ltb}
+use Rattle.runs.specs.Runs.{between}
 use Rattle.picture.specs.declared.Extent.{Extent}
 
 -- W and H
@@ -30,3 +31,7 @@ of-plane e i y cb cr = cond (ltb i (luma-size e)) y (cond (ltb i (luma-size e + 
 unfoldable pub pair-at : Extent → ℕ → ℕ
 pair-at e i =
     of-plane e i (i / width e / 2) ((i - luma-size e) / e .columns) ((i - (luma-size e + chroma-size e)) / e .columns)
+
+-- the sample at index i lies in a row pair from `first` up to, but not including, `last`
+abbrev pub in-pairs : Extent → ℕ → ℕ → ℕ → Bool
+in-pairs e first last i = between first last (pair-at e i)

@@ -1,0 +1,67 @@
+-- What composing row pairs is given, and the rules that it tests, in their order (the house rules' table).
+use mathlib.Core.Bool.{Bool, not, _&&_, _||_}
+use mathlib.Core.List.{List, [], _∷_, _++_}
+use Prim.Native.Nat.{ℕ, _+_, _^_}
+use lib.Dec.{eqb, ltb}
+use lib.ListN.{length}
+use Rattle.runs.specs.Runs.{between, some, at-least}
+use Rattle.refusals.specs.Refusals.{Rule, rule, first-met}
+use Rattle.picture.specs.declared.Extent.{Extent}
+use Rattle.picture.specs.Picture.{picture-size, in-pairs}
+use Rattle.plan.specs.declared.Header.{Header}
+use Rattle.plan.specs.declared.Plan.{Plan}
+use Rattle.plan.specs.Ranges.{bl-depth, el-depth}
+use Rattle.plan.specs.Rule7.{fitting}
+
+-- what a call is given, besides the memory that it writes
+pub record Given : Type 0 where
+  pub plan : Plan
+  pub first : ℕ
+  pub count : ℕ
+  pub base : List ℕ
+  pub enhancement : List ℕ
+
+abbrev pub given : Plan → ℕ → ℕ → List ℕ → List ℕ → Given
+given p f n b e = record { plan = p; first = f; count = n; base = b; enhancement = e }
+
+-- the size of a header's picture
+abbrev pub extent : Header → Extent
+extent h = record { columns = h .columns; pairs = h .pairs }
+
+-- the call names row pair k
+unfoldable pub names : Given → ℕ → Bool
+names g k = between (g .first) (g .first + g .count) k
+
+-- 5.3.2: the enhancement is used where the flag is 0 and a picture is present
+unfoldable pub used : Header → ℕ → Bool
+used h enhancement-length = eqb (h .disabled) 0 && ltb 0 enhancement-length
+
+-- rule 9, on the pictures: a run has the wrong length
+unfoldable pub wrong-length : Header → ℕ → ℕ → ℕ → Bool
+wrong-length h base enhancement output =
+    let size = picture-size (extent h) in
+    not (eqb base size) || (not (eqb output size) || (used h enhancement && not (eqb enhancement size)))
+
+-- rule 10: no row pair, or one past the last
+unfoldable pub wrong-pairs : Header → ℕ → ℕ → Bool
+wrong-pairs h first count = eqb count 0 || ltb (h .pairs) (first + count)
+
+-- rule 11: a sample that is used, in the row pairs from `first` up to `last`, is 2 ^ depth or more
+unfoldable pub wrong-sample : Header → ℕ → ℕ → List ℕ → List ℕ → Bool
+wrong-sample h first last base enhancement =
+    some (in-pairs (extent h) first last) (at-least (2 ^ bl-depth h)) base
+    || (used h (length enhancement) && some (in-pairs (extent h) first last) (at-least (2 ^ el-depth h)) enhancement)
+
+-- the rules in their order: 7, then those that a call tests before it looks at the pictures, then 9, 10 and 11
+unfoldable pub rules : List Rule → Given → ℕ → List Rule
+rules before g output-length =
+    rule 7 (not (fitting (g .plan)))
+    ∷ (before
+    ++ (rule 9 (wrong-length (g .plan .header) (length (g .base)) (length (g .enhancement)) output-length)
+    ∷ rule 10 (wrong-pairs (g .plan .header) (g .first) (g .count))
+    ∷ rule 11 (wrong-sample (g .plan .header) (g .first) (g .first + g .count) (g .base) (g .enhancement))
+    ∷ []))
+
+-- the number of the first one met, with the output's length; 0 where none is
+unfoldable pub refusal : Given → ℕ → ℕ
+refusal g output-length = first-met (rules [] g output-length)

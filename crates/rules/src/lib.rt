@@ -1,0 +1,57 @@
+// The rules that composing row pairs tests: 7 by the plan, 9 by the lengths, 10 by the row pairs, 11 by the samples.
+mod lengths; // rules 9 and 10, by numbers alone
+mod samples; // rule 11, by the samples of the row pairs
+
+use lengths::is_wrong_length;
+use lengths::is_wrong_pairs;
+use picture::Extent;
+use plan::Header;
+use plan::Plan;
+use plan::passes;
+use samples::is_wrong_sample;
+ghost use mathlib.Core.Path.{_≡_};
+ghost use Rattle.rules.specs.Rules.{given, extent, used, refusal};
+
+// The size of a header's picture.
+pub fn extent_of(h: Header) -> Extent
+    ensures { λ r. ⌜ r ≡ extent h ⌝ }
+{
+    Extent {
+        columns: h.columns,
+        pairs: h.pairs,
+    }
+}
+
+// 5.3.2: a picture that is not present disables the residual, whatever the flag says.
+pub fn is_used(h: Header, enhancement: usize) -> bool
+    ensures { λ r. ⌜ r ≡ used h enhancement ⌝ }
+{
+    (h.disabled == 0) & (0 < enhancement)
+}
+
+// The first rule met of 7, 9, 10 and 11, in this order, with the output's length; 0 where none is.
+pub fn refusal_of(
+    plan: Plan,
+    first: usize,
+    count: usize,
+    base: &[u16],
+    enhancement: &[u16],
+    output: usize,
+) -> u8
+    ensures { λ r. ⌜ r ≡ refusal (given plan first count (now (base .entry)) (now (enhancement .entry))) output ⌝ }
+{
+    if !passes(plan) {
+        return 7;
+    }
+    let h = plan.header;
+    if is_wrong_length(h, base.len(), enhancement.len(), output) {
+        return 9;
+    }
+    if is_wrong_pairs(h, first, count) {
+        return 10;
+    }
+    if is_wrong_sample(h, first, first + count, base, enhancement) {
+        return 11;
+    }
+    0
+}

@@ -1,0 +1,65 @@
+// Rule 11: the largest sample of the row pairs, plane by plane, before anything is written.
+use crate::extent_of;
+use crate::is_used;
+use picture::Extent;
+use picture::Plane;
+use picture::cb_plane;
+use picture::cr_plane;
+use picture::luma_plane;
+use plan::Header;
+use spans::largest;
+ghost use mathlib.Core.Path.{_≡_};
+ghost use mathlib.Core.Bool.{true};
+ghost use Prim.Native.Nat.{_+_, _≤_, _^_};
+ghost use lib.ListN.{length};
+ghost use Rattle.runs.specs.Runs.{between, some, at-least};
+ghost use Rattle.plan.specs.Facts.{HeaderFacts};
+ghost use Rattle.picture.specs.Picture.{in-pairs};
+ghost use Rattle.picture.specs.inner.Planes.{in-rows, InPlane, InPicture};
+ghost use Rattle.rules.specs.Rules.{extent, used, wrong-sample};
+
+fn large_in_plane(p: Plane, first: usize, last: usize, limit: u16, run: &[u16]) -> bool
+    requires { ⌜ InPlane p first last (length (now run)) × (1 ≤ limit) ⌝ }
+    ensures { λ r. ⌜ r ≡ some (in-rows p (between first last)) (at-least limit) (now (run .entry)) ⌝ }
+{
+    let a = p.start + p.row * first;
+    let b = p.start + p.row * last;
+    limit <= largest(&run[a..b])
+}
+
+fn large_in_picture(e: Extent, first: usize, last: usize, limit: u16, run: &[u16]) -> bool
+    requires { ⌜ InPicture e first last (length (now run)) × (1 ≤ limit) ⌝ }
+    ensures { λ r. ⌜ r ≡ some (in-pairs e first last) (at-least limit) (now (run .entry)) ⌝ }
+{
+    let y = large_in_plane(luma_plane(e), first, last, limit, run);
+    let cb = large_in_plane(cb_plane(e), first, last, limit, run);
+    let cr = large_in_plane(cr_plane(e), first, last, limit, run);
+    (y | cb) | cr
+}
+
+// How many codes a sample has, by its bit depth less 8.
+fn codes_of(minus8: u8) -> u16
+    requires { ⌜ minus8 ≤ 2 ⌝ }
+    ensures { λ r. ⌜ r ≡ 2 ^ (minus8 + 8) ⌝ }
+{
+    (1u64 << ((minus8 as u32) + 8)) as u16
+}
+
+pub(crate) fn is_wrong_sample(
+    h: Header,
+    first: usize,
+    last: usize,
+    base: &[u16],
+    enhancement: &[u16],
+) -> bool
+    requires { ⌜ HeaderFacts h × InPicture (extent h) first last (length (now base)) ⌝ }
+    requires { ⌜ (used h (length (now enhancement)) ≡ true → InPicture (extent h) first last (length (now enhancement))) ⌝ }
+    ensures { λ r. ⌜ r ≡ wrong-sample h first last (now (base .entry)) (now (enhancement .entry)) ⌝ }
+{
+    let e = extent_of(h);
+    let large = large_in_picture(e, first, last, codes_of(h.bl), base);
+    if !is_used(h, enhancement.len()) {
+        return large;
+    }
+    large | large_in_picture(e, first, last, codes_of(h.el), enhancement)
+}
