@@ -9,17 +9,14 @@ use plan::Component;
 use plan::Header;
 use plan::is_usable;
 use polynomial::map_step;
-ghost use mathlib.Core.Path.{_≡_};
-ghost use Rattle.plan.specs.Facts.{HeaderFacts, ComponentFacts};
 ghost use mathlib.Core.Bool.{true};
+ghost use mathlib.Core.Path.{_≡_};
 ghost use Rattle.plan.specs.Rule7.{usable};
 ghost use Rattle.mapping.specs.Mapped.{mapped-table};
 
 // Every code of a component that can be computed with. The row of a code's piece goes by value to the mapping step.
 fn map_codes(h: Header, c: Component) -> [u16; 1024]
     requires { ⌜ usable h c ≡ true ⌝ }
-    requires { ⌜ HeaderFacts h ⌝ }
-    requires { ⌜ ComponentFacts h c ⌝ }
     ensures { λ r. ⌜ r ≡ mapped-table h c ⌝ }
 {
     let depth = (h.bl as u32) + 8;
