@@ -1,16 +1,15 @@
 // The residual (5.4.3.2) and the reconstruction (5.4.3.3), as tables of what every code, mapped sample and sum comes to.
+mod filling; // the loops that fill the tables
 mod inverse; // the inverse quantization of one enhancement layer sample
 mod rounding; // the reconstruction of one HDR sample
 
-use inverse::residual_of;
+use filling::cut_sums;
+use filling::finish_codes;
+use filling::raise_codes;
 use plan::Component;
 use plan::Header;
-use plan::Nlq;
 use plan::is_usable;
 use plan::ranges::header_fits;
-use rounding::finish;
-use rounding::power;
-use rounding::raise;
 ghost use mathlib.Core.Path.{_≡_};
 ghost use Rattle.residual.specs.Tables.{residual-table, finished-table, cut-table};
 
@@ -21,8 +20,7 @@ pub fn residual_table(h: Header, c: Component) -> [u32; 1024]
     if !is_usable(h, c) {
         return [0u32; 1024];
     }
-    let q = c.nlq;
-    raise_codes(h, q)
+    raise_codes(h, c)
 }
 
 // The HDR sample of each mapped sample, where there is no residual.
