@@ -1,0 +1,58 @@
+-- The pivots up to i are there, and the sum is that of the predictions passed. Assumes nothing.
+use mathlib.Core.Path.{_≡_, refl, ap, _∙_}
+use borrow.Author.Needs.{needs}
+use Prim.Native.Nat.{ℕ, _+_, _-_, _≤_, _^_}
+use native.Mathlib.Nat.{le-of-lt}
+use native.Mathlib.Omega.{arith}
+use Rattle.runs.specs.Runs.{at}
+use Rattle.runs.proofs.Tables.{Filled, fill-none, fill-more, fill-all}
+use Rattle.standard.specs.Mapping.{pivot-value}
+use Rattle.standard.proofs.Pivots.{total, total-none, total-more, total-pivot, total-le}
+use Rattle.mapping.proofs.pieces.pivots_of.Statement.{statement}
+use Rattle.mapping.proofs.pieces.pivots_of.Tie as tie
+
+abbrev Inv-loop : tie.InvT-loop
+Inv-loop preds pivots₀ sum₀ i₀ pivots sum i =
+    (i ≤ 17) × ((sum ≡ total (at preds) i) × Filled 17 (pivot-value (at preds)) i pivots)
+
+abbrev μ-loop : tie.MeasureT-loop
+μ-loop preds pivots₀ sum₀ i₀ pivots sum i = 17 - i
+
+loop-holds : tie.Need-loop-holds Inv-loop μ-loop
+loop-holds c = (omega arith, (total-none (at (c .args .t1)), fill-none 17 _ 0 (λ j h. omega arith)))
+
+add-sum : tie.Need-add-sum Inv-loop μ-loop
+add-sum c =
+    let st : tie.Start Inv-loop μ-loop = search needs in
+    let lp : tie.At-loop Inv-loop μ-loop = search needs in
+    omega (arith, st .pre (lp .loop .i), total-le (at (st .args .t1)) (2 ^ 10) (lp .loop .i) (λ i. le-of-lt (st .pre i)))
+
+loop-again : tie.Need-loop-again Inv-loop μ-loop
+loop-again c =
+    let st : tie.Start Inv-loop μ-loop = search needs in
+    let lp : tie.At-loop Inv-loop μ-loop = search needs in
+    let ps = at (st .args .t1) in
+    let e = ap (λ (n : ℕ). n + ps (lp .loop .i)) (lp .loop .inv .1 .0) in
+    (omega arith, (e ∙ total-more ps (lp .loop .i), fill-more (lp .loop .inv .1 .1) (omega arith) (e ∙ total-pivot ps (lp .loop .i))))
+
+returns : tie.Need-returns Inv-loop μ-loop
+returns c =
+    let lp : tie.At-loop Inv-loop μ-loop = search needs in
+    fill-all _ (lp .loop .inv .1 .1) (λ j a b. refl) (λ j a b. omega arith)
+
+pub pivots-of-spec : {M : Type 1} → statement M
+pivots-of-spec =
+    tie.close
+    (tie.spec
+    Inv-loop
+    μ-loop
+    loop-holds
+    (λ c. omega arith)
+    (λ c. omega arith)
+    add-sum
+    (λ c. omega arith)
+    (λ c. omega arith)
+    (λ c. omega arith)
+    (λ c. omega arith)
+    loop-again
+    returns)

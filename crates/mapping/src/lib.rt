@@ -1,0 +1,50 @@
+// The mapping of base layer samples (5.4.2): a table of what every code comes to, since a picture has many more samples than there are codes.
+mod pieces; // the pivots, the piece of a sample, the clamp
+mod polynomial; // the polynomial of a piece, and its cut
+
+use pieces::clamp;
+use pieces::piece_of;
+use pieces::pivots_of;
+use plan::Component;
+use plan::Header;
+use plan::is_usable;
+use polynomial::map_step;
+ghost use mathlib.Core.Bool.{true};
+ghost use mathlib.Core.Path.{_≡_};
+ghost use Rattle.plan.specs.Rule7.{usable};
+ghost use Rattle.mapping.specs.Mapped.{mapped-table};
+
+// Every code of a component that can be computed with. The row of a code's piece goes by value to the mapping step.
+fn map_codes(h: Header, c: Component) -> [u16; 1024]
+    requires { ⌜ usable h c ≡ true ⌝ }
+    ensures { λ r. ⌜ r ≡ mapped-table h c ⌝ }
+{
+    let depth = (h.bl as u32) + 8;
+    let d = h.d as u32;
+    let n = c.n as usize;
+    let preds = c.preds;
+    let pieces = c.pieces;
+    let pivots = pivots_of(preds);
+    let codes = (1u64 << depth) as u16;
+    let mut table = [0u16; 1024];
+    let mut s: u16 = 0;
+    while s < codes {
+        let t = clamp(pivots[0], pivots[n + 1], s);
+        let p = piece_of(&pivots, n, s);
+        let piece = pieces[p];
+        let row = piece.row;
+        table[s as usize] = map_step(depth, d, t, row);
+        s += 1;
+    }
+    table
+}
+
+// The mapped sample of each code; zeros where the component cannot be computed with.
+pub fn mapped_table(h: Header, c: Component) -> [u16; 1024]
+    ensures { λ r. ⌜ r ≡ mapped-table h c ⌝ }
+{
+    if !is_usable(h, c) {
+        return [0u16; 1024];
+    }
+    map_codes(h, c)
+}

@@ -1,0 +1,55 @@
+// The polynomial of a piece at a clamped sample (5.4.2.3.2).
+ghost use mathlib.Core.Path.{_≡_};
+ghost use Prim.Native.Nat.{_*_, _≤_, _^_};
+ghost use lib.IntN.{pos};
+ghost use Rattle.standard.specs.Mapping.{from-zero, poly-sum, cut};
+ghost use Rattle.mapping.specs.Steps.{coef, RowRanges};
+
+// A number times a power of two.
+fn shifted(x: u64, shift: u32) -> i64
+    requires { ⌜ (shift ≤ 20) × (x * 2 ^ shift ≤ 2 ^ 20) ⌝ }
+    ensures { λ r. ⌜ r ≡ pos (x * 2 ^ shift) ⌝ }
+{
+    (x << shift) as i64
+}
+
+// The sum over a row of three coefficients; one that the piece's order does not use is 0 and adds nothing.
+fn sum_of(depth: u32, s: u16, row: [i64; 3]) -> i64
+    requires { ⌜ RowRanges depth s row ⌝ }
+    ensures { λ r. ⌜ r ≡ poly-sum depth s (coef row) 2 ⌝ }
+{
+    let wide = s as u64;
+    let linear = shifted(wide, 20 - depth);
+    let square = shifted(wide * wide, 20 - 2 * depth);
+    row[0] * 1048576 + row[1] * linear + row[2] * square
+}
+
+// A negative number becomes 0.
+fn positive(v: i64) -> u64
+    ensures { λ r. ⌜ r ≡ from-zero v ⌝ }
+{
+    if v < 0 {
+        return 0;
+    }
+    v as u64
+}
+
+fn cut_at(d: u32, v: i64) -> u16
+    requires { ⌜ d ≤ 32 ⌝ }
+    ensures { λ r. ⌜ r ≡ cut d v ⌝ }
+{
+    let q = positive(v) >> (4 + d);
+    if q > 65535 {
+        return 65535;
+    }
+    q as u16
+}
+
+// The mapping step: a clamped sample, and the row of its piece by value.
+pub(crate) fn map_step(depth: u32, d: u32, s: u16, row: [i64; 3]) -> u16
+    requires { ⌜ d ≤ 32 ⌝ }
+    requires { ⌜ RowRanges depth s row ⌝ }
+    ensures { λ r. ⌜ r ≡ cut d (poly-sum depth s (coef row) 2) ⌝ }
+{
+    cut_at(d, sum_of(depth, s, row))
+}

@@ -1,0 +1,41 @@
+// The reconstruction of one HDR sample (5.4.3.3), in two parts: what is done to the residual, and what is done to a mapped sample that has none.
+ghost use mathlib.Core.Path.{_≡_};
+ghost use Prim.Native.Nat.{_≤_, _^_};
+ghost use lib.IntN.{pos, natAbs};
+ghost use Rattle.standard.specs.Reconstruction.{reconstructed};
+ghost use Rattle.residual.specs.Raising.{raised};
+
+pub(crate) fn power(k: u32) -> u64
+    requires { ⌜ k ≤ 32 ⌝ }
+    ensures { λ r. ⌜ r ≡ 2 ^ k ⌝ }
+{
+    1u64 << k
+}
+
+// The residual, 2^16 and the rounding term higher, cut to 0 .. 2^17: unsigned, so that a sum with a mapped sample needs no sign.
+pub(crate) fn raise(out: u32, r: i64) -> u32
+    requires { ⌜ (out ≤ 12) × (natAbs r ≤ 2 ^ 17) ⌝ }
+    ensures { λ u. ⌜ u ≡ raised out r ⌝ }
+{
+    let u = r + (65536 + (power(15 - out) as i64));
+    if u < 0 {
+        return 0;
+    }
+    if u > 131072 {
+        return 131072;
+    }
+    u as u32
+}
+
+// The HDR sample of a mapped sample without residual.
+pub(crate) fn finish(out: u32, v: u16) -> u16
+    requires { ⌜ out ≤ 12 ⌝ }
+    ensures { λ h. ⌜ h ≡ reconstructed out v (pos 0) ⌝ }
+{
+    let h = ((v as u64) + power(15 - out)) >> (16 - out);
+    let most = power(out) - 1;
+    if most < h {
+        return most as u16;
+    }
+    h as u16
+}
