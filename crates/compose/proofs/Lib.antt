@@ -1,6 +1,2 @@
-pub mod Geometry
+pub mod Lending
 pub mod Meaning
-pub mod Raising
-pub mod Looking
-pub mod Accepting
-pub mod Determined

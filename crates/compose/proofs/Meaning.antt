@@ -1,59 +1,69 @@
--- A kernel computes what the standard says of its component, and keeps the bounds that the arithmetic asks. Assumes nothing.
-use mathlib.Core.Path.{_≡_, ap, ap₂, _∙_}
-use mathlib.Core.Bool.{true, false}
+-- What stands in the tables is the standard's: by them each sample of a plane is the composed one. Assumes nothing.
+use mathlib.Core.Path.{_≡_, refl, sym, ap, ap₂, _∙_}
+use mathlib.Core.Bool.{Bool, true, _&&_, true≢false}
 use mathlib.Core.List.{List}
-use Prim.Native.Nat.{ℕ, _+_, _<_}
+use Prim.Native.Nat.{ℕ, _+_, _*_, _/_, _%_, _^_, _<_, _≤_, min}
+use native.Mathlib.Nat.{mod-eq-of-lt}
 use native.Mathlib.Omega.{arith}
-use Rattle.standard.specs.Mapping.{pivot-value, piece, clamped, mapped, poly-sum, cut}
-use Rattle.standard.specs.Reconstruction.{composed}
-use Rattle.standard.proofs.Pieces.{piece-cong}
-use Rattle.standard.proofs.Polynomials.{by-three-terms}
+use lib.IntN.{pos}
+use lib.ListN.{length, getD}
+use borrow.Author.Tests.{lt-ltb}
+use Rattle.runs.specs.Runs.{at, painted, between}
+use Rattle.runs.proofs.Painting.{painted-cong}
+use Rattle.runs.proofs.Tables.{at-table}
+use Rattle.standard.specs.Mapping.{mapped, polynomial}
+use Rattle.standard.specs.Residual.{residual}
 use Rattle.plan.specs.declared.Header.{Header}
 use Rattle.plan.specs.declared.Component.{Component}
-use Rattle.plan.specs.Parameters.{mapping}
-use Rattle.plan.specs.Facts.{HeaderFacts, ComponentFacts}
-use Rattle.compose.specs.declared.kernel.Kernel.{Kernel}
-use Rattle.compose.specs.Ranges.{at, coef}
-use Rattle.compose.specs.Kernel.{row-of, KernelRanges, KernelOf, kernel-mapped}
-use Rattle.compose.specs.Planes.{plain-at, enhanced-at}
-use Rattle.compose.specs.Composing.{sample-of}
+use Rattle.plan.specs.Parameters.{mapping, quantization}
+use Rattle.plan.specs.Ranges.{bl-depth, el-depth, hdr-depth, header-fits}
+use Rattle.plan.specs.Rule7.{usable}
+use Rattle.plan.specs.Facts.{HeaderFacts}
+use Rattle.plan.proofs.Facts.{header-kept}
+use Rattle.plan.proofs.Shifting.{power-le}
+use Rattle.mapping.specs.Mapped.{mapped-code, mapped-table}
+use Rattle.residual.specs.Raising.{raised}
+use Rattle.residual.specs.Tables.{residual-code, residual-table, finished-code, finished-table, cut-code, cut-table}
+use Rattle.residual.proofs.Raising.{lowered-raised, sum-less}
+use Rattle.spans.specs.Spans.{entry, cut-of, looked-up, added-up}
+use Rattle.compose.specs.inner.Rows.{plain-at, enhanced-at}
 
--- the three terms with summed pivots are the standard's mapping
-mapped-is : (h : Header) (c : Component) → ComponentFacts h c → (depth d : ℕ) (pivots : List ℕ) → ((i : ℕ) → i < 17 → at pivots i ≡ pivot-value (at (c .preds)) i) → (s : ℕ) → kernel-mapped depth d (c .n) pivots (c .pieces) s ≡ mapped depth d (mapping c) s
-unfolding kernel-mapped mapped
-mapped-is h c g depth d pivots e s =
-    let n = c .n in
-    let pv = pivot-value (at (c .preds)) in
-    let p = piece pv n s in
-    ap (λ (p : ℕ). cut d (poly-sum depth (clamped (at pivots 0) (at pivots (n + 1)) s) (coef (row-of (c .pieces) p)) 2))
-    (piece-cong (at pivots) pv n s (λ i b. e i (omega (arith, g .count))))
-    ∙ ap₂ (λ (a b : ℕ). cut d (poly-sum depth (clamped a b s) (coef (row-of (c .pieces) p)) 2)) (e 0 (omega arith)) (e (n + 1) (omega (arith, g .count)))
-    ∙ by-three-terms depth d _ (clamped (pv 0) (pv (n + 1)) s) (coef (row-of (c .pieces) p)) (g .order p) (g .unused p)
+both : (a b : Bool) → (a && b) ≡ true → (a ≡ true) × (b ≡ true)
+both true b h = (refl, h)
+both false b h = absurd (true≢false (sym h))
 
--- a sample by the kernel is the standard's, without residual and with it
-module _ (h : Header) (c : Component) (k : Kernel) (hf : HeaderFacts h) (cf : ComponentFacts h c) (o : KernelOf h c k) where
-  pub plain-is : (base enhancement : List ℕ) (i : ℕ) → plain-at k (h .hdr + 8) base i ≡ sample-of h c false base enhancement i
-  unfolding plain-at sample-of composed
-  plain-is base enhancement i =
-      rw (o .depth, o .d, o .n, o .pieces, mapped-is h c cf (h .bl + 8) (h .d) (k .pivots) (o .pivots) (at base i))
+mapped-le : (h : Header) (c : Component) (s : ℕ) → mapped (bl-depth h) (h .d) (mapping c) s ≤ 65535
+unfolding mapped polynomial
+mapped-le h c s = omega arith
 
-  pub enhanced-is : (base enhancement : List ℕ) (i : ℕ) → enhanced-at k (h .hdr + 8) base enhancement i ≡ sample-of h c true base enhancement i
-  unfolding enhanced-at sample-of composed
-  enhanced-is base enhancement i =
-      rw (o .depth, o .d, o .n, o .pieces, o .q, hf .same-depth, mapped-is h c cf (h .bl + 8) (h .d) (k .pivots) (o .pivots) (at base i))
+-- a code is an index of the tables
+module _ (h : Header) (c : Component) (ok : usable h c ≡ true) where
+  fits : header-fits h ≡ true
+  fits = both (header-fits h) _ ok .0
 
-  pub ranges-are : KernelRanges k
-  unfolding pivot-value
-  ranges-are =
-      record {
-        shallow = rw (o .depth) (omega (arith, hf .base-depth));
-        fraction = rw (o .d) (hf .shallow);
-        deep = rw (o .depth, o .d) (omega (arith, hf .deep, hf .same-depth));
-        count = rw (o .n) (cf .count);
-        lowest = rw (o .pivots 0 (omega arith), o .depth) (cf .pivot 0);
-        coefficient = rw (o .pieces, o .d) (cf .coefficient);
-        offset = rw (o .q, o .depth, ← hf .same-depth) (cf .offset);
-        maximum = rw (o .q, o .d) (cf .maximum);
-        slope = rw (o .q, o .d) (cf .slope);
-        threshold = rw (o .q, o .d) (cf .threshold);
-      }
+  facts : HeaderFacts h
+  facts = header-kept h fits
+
+  mapped-entry : (s : ℕ) → s < 2 ^ bl-depth h → entry (mapped-table h c) s ≡ mapped (bl-depth h) (h .d) (mapping c) s
+  unfolding mapped-table mapped-code
+  mapped-entry s b =
+      let few : s < 1024 = ? in
+      ap (at (mapped-table h c)) (mod-eq-of-lt few) ∙ at-table 1024 (mapped-code h c) s few ∙ rw (ok, lt-ltb s (2 ^ bl-depth h) b)
+
+  raised-entry : (e : ℕ) → e < 2 ^ el-depth h → entry (residual-table h c) e ≡ raised (hdr-depth h) (residual (el-depth h) (h .d) (quantization (c .nlq)) e)
+  unfolding residual-table residual-code
+  raised-entry e b =
+      let few : e < 1024 = ? in
+      ap (at (residual-table h c)) (mod-eq-of-lt few) ∙ at-table 1024 (residual-code h c) e few ∙ rw (ok, lt-ltb e (2 ^ el-depth h) b)
+
+  pub plain-by-table : (base : List ℕ) (i : ℕ) → at base i < 2 ^ bl-depth h → looked-up (finished-table h (mapped-table h c)) base i ≡ plain-at h c base i
+  unfolding looked-up finished-table finished-code plain-at
+  plain-by-table base i b =
+      let few : at base i < 1024 = ? in
+      ap (at (finished-table h (mapped-table h c))) (mod-eq-of-lt few)
+      ∙ at-table 1024 (finished-code h (mapped-table h c)) (at base i) few
+      ∙ ?
+
+  pub enhanced-by-tables : (base enhancement : List ℕ) (i : ℕ) → at base i < 2 ^ bl-depth h → at enhancement i < 2 ^ el-depth h → added-up (mapped-table h c) (residual-table h c) (cut-table h) base enhancement i ≡ enhanced-at h c base enhancement i
+  unfolding added-up cut-table cut-code enhanced-at
+  enhanced-by-tables base enhancement i b b' = ?

@@ -1,9 +1,2 @@
-pub mod Ranges
-pub mod Kernel
-pub mod Raising
-pub mod Spans
-pub mod Picture
-pub mod Places
 pub mod Composing
-pub mod Planes
-pub mod Early
+pub mod inner

@@ -8,26 +8,26 @@ use lib.ListN.{length, getD}
 use borrow.Author.Tests.{eqb-true}
 use Rattle.runs.specs.Runs.{painted}
 use Rattle.runs.proofs.Painting.{at-painted}
-use Rattle.standard.specs.Reconstruction.{composed}
+use Rattle.picture.specs.Picture.{pair-at}
 use Rattle.plan.specs.declared.Plan.{Plan}
-use Rattle.compose.specs.Picture.{pair-at}
-use Rattle.compose.specs.Composing.{used, sample-of, composed-at}
-use Rattle.jobs.specs.Jobs.{Job, accepted, names, sample, output-after}
+use Rattle.rules.specs.Rules.{extent, names, used}
+use Rattle.compose.specs.Composing.{mapped-at, residual-at, composed-at}
+use Rattle.jobs.specs.Jobs.{Job, accepted, sample, output-after}
 use Rattle.jobs.specs.Samples.{EverySample}
 
 module _ (j : Job) (output marks : List ℕ) where
   abbrev painting : List ℕ
-  painting = painted (λ i. names j (pair-at (j .plan .header) i)) (sample j) output
+  painting = painted (λ i. names (j .work) (pair-at (extent (j .work .plan .header)) i)) (sample j) output
 
   after : (u : Bool) → accepted j (length output) (length marks) ≡ u → output-after j output marks ≡ cond u painting output
   unfolding output-after
   after u h = rw h
 
-  at : (i : ℕ) (u : Bool) → i < length output → names j (pair-at (j .plan .header) i) ≡ u → getD painting i 0 ≡ cond u (sample j i) (getD output i 0)
+  at : (i : ℕ) (u : Bool) → i < length output → names (j .work) (pair-at (extent (j .work .plan .header)) i) ≡ u → getD painting i 0 ≡ cond u (sample j i) (getD output i 0)
   at i u l h = at-painted _ _ output i 0 l ∙ ap (λ (v : Bool). cond v (sample j i) (getD output i 0)) h
 
 pub every-sample : EverySample
-unfolding composed-at sample-of
+unfolding composed-at mapped-at residual-at
 every-sample =
     record {
       named = λ j output marks h i l n. ap (λ (r : List ℕ). getD r i 0) (after j output marks true h) ∙ at j output marks i true l n;
@@ -35,12 +35,12 @@ every-sample =
       refused = λ j output marks h. after j output marks false h;
     }
   where
-    go : (j : Job) (output marks : List ℕ) (i : ℕ) → i < length output → names j (pair-at (j .plan .header) i) ≡ false → (u : Bool) → accepted j (length output) (length marks) ≡ u → getD (output-after j output marks) i 0 ≡ getD output i 0
+    go : (j : Job) (output marks : List ℕ) (i : ℕ) → i < length output → names (j .work) (pair-at (extent (j .work .plan .header)) i) ≡ false → (u : Bool) → accepted j (length output) (length marks) ≡ u → getD (output-after j output marks) i 0 ≡ getD output i 0
     go j output marks i l n true h = ap (λ (r : List ℕ). getD r i 0) (after j output marks true h) ∙ at j output marks i false l n
     go j output marks i l n false h = ap (λ (r : List ℕ). getD r i 0) (after j output marks false h)
 
 pub same-sample : (p : Plan) (base e e' : List ℕ) (i : ℕ) → (p .header .disabled ≡ 0 → e ≡ e') → composed-at p base e i ≡ composed-at p base e' i
-unfolding composed-at used sample-of composed
+unfolding composed-at residual-at used
 same-sample p base e e' i h = go (eqb (p .header .disabled) 0) refl
   where
     go : (b : Bool) → eqb (p .header .disabled) 0 ≡ b → composed-at p base e i ≡ composed-at p base e' i

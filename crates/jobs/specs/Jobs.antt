@@ -1,81 +1,74 @@
 -- A row job: its refusals, its answer, and what it leaves in the output and in the marks.
-use mathlib.Core.Bool.{Bool, false, not, _||_, cond}
+use mathlib.Core.Bool.{Bool, not, _&&_, cond}
 use mathlib.Core.List.{List, [], _∷_}
-use Prim.Native.Nat.{ℕ, _+_}
+use Prim.Native.Nat.{ℕ}
 use lib.Dec.{eqb}
-use lib.ListN.{length}
-use Rattle.runs.specs.Runs.{painted, between, tally}
+use lib.ListN.{length, getD}
+use Rattle.runs.specs.Runs.{painted, tally}
+use Rattle.refusals.specs.Refusals.{Rule, rule, first-met}
+use Rattle.refusals.specs.Outcomes.{Outcome, granted, denied, outcome}
+use Rattle.picture.specs.Picture.{pair-at}
 use Rattle.plan.specs.declared.Plan.{Plan}
-use Rattle.plan.specs.Rule7.{fitting}
-use Rattle.plan.specs.Refusals.{rule, first-met}
-use Rattle.compose.specs.Picture.{pair-at}
-use Rattle.compose.specs.Composing.{given, wrong-length, wrong-pairs, wrong-sample, composed-at}
+use Rattle.rules.specs.Rules.{Given, given, extent, names, rules}
+use Rattle.compose.specs.Composing.{composes, composed-at}
 use Rattle.jobs.specs.declared.Answer.{Answer}
 use Rattle.jobs.specs.declared.Answer.the-variants.{Done, Refused}
 
--- what a job is given, besides the output and the marks
+-- what a job is given, besides the output and the marks: its work, the opened picture's ticket and its own
 pub record Job : Type 0 where
-  pub plan : Plan
+  pub work : Given
   pub open-ticket : ℕ
   pub ticket : ℕ
-  pub first : ℕ
-  pub count : ℕ
-  pub base : List ℕ
-  pub enhancement : List ℕ
 
 abbrev pub job : Plan → ℕ → ℕ → ℕ → ℕ → List ℕ → List ℕ → Job
-job p o t f n b e = record { plan = p; open-ticket = o; ticket = t; first = f; count = n; base = b; enhancement = e }
+job p o t f n b e = record { work = given p f n b e; open-ticket = o; ticket = t }
 
--- rules 7 to 11 in this order, with the lengths of the output and of the marks; 0 where none is met
+-- what a job tests before it looks at the pictures: rule 8, and rule 9 on the marks
+abbrev pub before-pictures : Job → ℕ → List Rule
+before-pictures j marks-length =
+    rule 8 (not (eqb (j .ticket) (j .open-ticket))) ∷ rule 9 (not (eqb marks-length (j .work .plan .header .pairs))) ∷ []
+
+-- rules 7 to 11 in their order, with the lengths of the output and of the marks; 0 where none is met
 unfoldable pub job-refusal : Job → ℕ → ℕ → ℕ
-job-refusal j output-length marks-length =
-    let h = j .plan .header in
-    first-met
-    (rule 7 (not (fitting (j .plan)))
-    ∷ rule 8 (not (eqb (j .ticket) (j .open-ticket)))
-    ∷ rule 9 (not (eqb marks-length (h .pairs)) || wrong-length h (length (j .base)) (length (j .enhancement)) output-length)
-    ∷ rule 10 (wrong-pairs h (j .first) (j .count))
-    ∷ rule 11 (wrong-sample (given (j .plan) (j .first) (j .count) (j .base) (j .enhancement)))
-    ∷ [])
+job-refusal j output-length marks-length = first-met (rules (before-pictures j marks-length) (j .work) output-length)
 
 unfoldable pub accepted : Job → ℕ → ℕ → Bool
 accepted j output-length marks-length = eqb (job-refusal j output-length marks-length) 0
 
--- the job names row pair k
-unfoldable pub names : Job → ℕ → Bool
-names j k = between (j .first) (j .first + j .count) k
-
 -- demand 2: the sample at index i is the composing process of clause 5.4 at that sample's base and enhancement values
 abbrev pub sample : Job → ℕ → ℕ
-sample j = composed-at (j .plan) (j .base) (j .enhancement)
+sample j = composed-at (j .work .plan) (j .work .base) (j .work .enhancement)
 
--- the mark of a row pair that is done
+-- the mark of a row pair that is done, and whether one waits
 abbrev pub done : ℕ → ℕ
 done k = 1
 
--- an accepted job writes the row pairs that it names and their marks, and nothing else
-unfoldable pub output-after : Job → List ℕ → List ℕ → List ℕ
-output-after j output marks =
-    cond (accepted j (length output) (length marks)) (painted (λ i. names j (pair-at (j .plan .header) i)) (sample j) output) output
-
-unfoldable pub marks-after : Job → List ℕ → List ℕ → List ℕ
-marks-after j output marks = cond (accepted j (length output) (length marks)) (painted (names j) done marks) marks
-
--- rows left: the zero marks after the job
 abbrev pub is-waiting : ℕ → Bool
 is-waiting mark = eqb mark 0
 
-unfoldable pub job-answer : Job → List ℕ → List ℕ → Answer
-job-answer j output marks =
+-- an accepted job composes its row pairs and marks those that it names, and writes nothing else
+unfoldable pub output-after : Job → List ℕ → List ℕ → List ℕ
+output-after j output marks =
     cond (accepted j (length output) (length marks))
-    (Done (tally is-waiting (marks-after j output marks)))
-    (Refused (job-refusal j (length output) (length marks)))
+    (painted (λ i. composes (j .work) (pair-at (extent (j .work .plan .header)) i)) (sample j) output)
+    output
 
--- the house rules' number for each case: 0 and the rows left, or the number alone; complete is exactly rows left 0
-abbrev pub answer-number : Answer → ℕ
-answer-number (Done left) = 0
-answer-number (Refused k) = k
+unfoldable pub marks-after : Job → List ℕ → List ℕ → List ℕ
+marks-after j output marks = cond (accepted j (length output) (length marks)) (painted (names (j .work)) done marks) marks
 
-abbrev pub complete : Answer → Bool
-complete (Done left) = eqb left 0
-complete (Refused k) = false
+-- what each case of the answer says: done, with the rows left, or refused, with the number alone
+abbrev pub says : Answer → Outcome
+says (Done left) = granted (left ∷ [])
+says (Refused k) = denied k
+
+-- rows left: the zero marks after the job
+unfoldable pub job-answer : Job → List ℕ → List ℕ → Outcome
+job-answer j output marks =
+    outcome (job-refusal j (length output) (length marks)) (tally is-waiting (marks-after j output marks) ∷ [])
+
+abbrev pub rows-left : Outcome → ℕ
+rows-left o = getD (o .values) 0 0
+
+-- complete is said exactly where the job is done and no row pair is left
+abbrev pub complete : Outcome → Bool
+complete o = not (o .refused) && eqb (rows-left o) 0

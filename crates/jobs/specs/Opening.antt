@@ -3,11 +3,12 @@ use mathlib.Core.Bool.{Bool, true, not, cond}
 use mathlib.Core.List.{List, [], _∷_}
 use Prim.Native.Nat.{ℕ}
 use lib.Dec.{eqb}
-use lib.ListN.{length}
+use lib.ListN.{length, getD}
 use Rattle.runs.specs.Runs.{painted}
+use Rattle.refusals.specs.Refusals.{rule, first-met}
+use Rattle.refusals.specs.Outcomes.{Outcome, granted, denied, outcome}
 use Rattle.plan.specs.declared.Plan.{Plan}
 use Rattle.plan.specs.Rule7.{fitting}
-use Rattle.plan.specs.Refusals.{rule, first-met}
 use Rattle.jobs.specs.declared.Opened.{Opened}
 use Rattle.jobs.specs.declared.Opened.the-variants.{Open, Refused}
 
@@ -17,14 +18,16 @@ opening-refusal p marks-length = first-met (rule 7 (not (fitting p)) ∷ rule 9 
 unfoldable pub opening-accepted : Plan → ℕ → Bool
 opening-accepted p marks-length = eqb (opening-refusal p marks-length) 0
 
--- the ticket handed back, or the refusal's number alone
-unfoldable pub opening-answer : Plan → ℕ → ℕ → Opened
-opening-answer p ticket marks-length = cond (opening-accepted p marks-length) (Open ticket) (Refused (opening-refusal p marks-length))
+-- what each case of the answer says: the ticket handed back, or the refusal's number alone
+abbrev pub opened-says : Opened → Outcome
+opened-says (Open ticket) = granted (ticket ∷ [])
+opened-says (Refused k) = denied k
 
--- the house rules' number for each case
-abbrev pub opened-number : Opened → ℕ
-opened-number (Open ticket) = 0
-opened-number (Refused k) = k
+unfoldable pub opening-answer : Plan → ℕ → ℕ → Outcome
+opening-answer p ticket marks-length = outcome (opening-refusal p marks-length) (ticket ∷ [])
+
+abbrev pub handed-back : Outcome → ℕ
+handed-back o = getD (o .values) 0 0
 
 -- every mark is cleared; a refused opening writes nothing
 abbrev pub every-pair : ℕ → Bool

@@ -12,8 +12,8 @@ use refusals::opening_number_of;
 use refusals::seven_or;
 ghost use mathlib.Core.Path.{_≡_};
 ghost use lib.ListN.{length};
-ghost use Rattle.jobs.specs.Jobs.{job, job-answer, output-after, marks-after, answer-number, complete};
-ghost use Rattle.jobs.specs.Opening.{opening-answer, opening-marks, opened-number};
+ghost use Rattle.jobs.specs.Jobs.{job, says, job-answer, output-after, marks-after, complete};
+ghost use Rattle.jobs.specs.Opening.{opened-says, opening-answer, opening-marks};
 ghost use Rattle.jobs.specs.Samples.{EverySample};
 
 // An opening hands its ticket back as the opened picture's, or is refused by a number.
@@ -30,7 +30,7 @@ pub enum Answer {
 
 // The refusal's number, 0 where the picture is open.
 pub fn opened_number(opened: Opened) -> u8
-    ensures { λ r. ⌜ r ≡ opened-number opened ⌝ }
+    ensures { λ r. ⌜ r ≡ opened-says opened .number ⌝ }
 {
     match opened {
         Opened::Open(_) => 0,
@@ -40,7 +40,7 @@ pub fn opened_number(opened: Opened) -> u8
 
 // The refusal's number, 0 where the job is done.
 pub fn number(answer: Answer) -> u8
-    ensures { λ r. ⌜ r ≡ answer-number answer ⌝ }
+    ensures { λ r. ⌜ r ≡ says answer .number ⌝ }
 {
     match answer {
         Answer::Done(_) => 0,
@@ -50,7 +50,7 @@ pub fn number(answer: Answer) -> u8
 
 // Whether the job is done and no row pair waits any more.
 pub fn is_complete(answer: Answer) -> bool
-    ensures { λ r. ⌜ r ≡ complete answer ⌝ }
+    ensures { λ r. ⌜ r ≡ complete (says answer) ⌝ }
 {
     match answer {
         Answer::Done(rows_left) => rows_left == 0,
@@ -60,7 +60,7 @@ pub fn is_complete(answer: Answer) -> bool
 
 // Opens a picture: every row pair waits. Refused by rule 7 or 9, in this order, it writes nothing.
 pub fn open_picture(plan: Plan, ticket: u32, marks: &mut [u8]) -> Opened
-    ensures answers { λ r. ⌜ r ≡ opening-answer plan ticket (length (now (marks .entry))) ⌝ }
+    ensures answers { λ r. ⌜ opened-says r ≡ opening-answer plan ticket (length (now (marks .entry))) ⌝ }
     ensures marking { λ _. ⌜ now (marks .exit) ≡ opening-marks plan (now (marks .entry)) ⌝ }
 {
     let number = opening_number_of(plan, marks.len());
@@ -84,7 +84,7 @@ pub fn compose_job(
     output: &mut [u16],
     marks: &mut [u8],
 ) -> Answer
-    ensures answers { λ r. ⌜ r ≡ job-answer (job plan «open_ticket» ticket first count (now (base .entry)) (now (enhancement .entry))) (now (output .entry)) (now (marks .entry)) ⌝ }
+    ensures answers { λ r. ⌜ says r ≡ job-answer (job plan «open_ticket» ticket first count (now (base .entry)) (now (enhancement .entry))) (now (output .entry)) (now (marks .entry)) ⌝ }
     ensures writes { λ _. ⌜ now (output .exit) ≡ output-after (job plan «open_ticket» ticket first count (now (base .entry)) (now (enhancement .entry))) (now (output .entry)) (now (marks .entry)) ⌝ }
     ensures marking { λ _. ⌜ now (marks .exit) ≡ marks-after (job plan «open_ticket» ticket first count (now (base .entry)) (now (enhancement .entry))) (now (output .entry)) (now (marks .entry)) ⌝ }
 {

@@ -4,21 +4,18 @@ use mathlib.Core.List.{List, [], _∷_}
 use Prim.Native.Nat.{ℕ}
 use lib.IntN.{pos}
 use lib.ListN.{replicate}
+use Rattle.refusals.specs.Outcomes.{Outcome}
 use Rattle.plan.specs.declared.Header.{Header}
 use Rattle.plan.specs.declared.Piece.{Piece}
 use Rattle.plan.specs.declared.Component.{Component}
 use Rattle.plan.specs.declared.Plan.{Plan}
+use Rattle.plan.specs.Rule7.{zero-piece}
 use Rattle.jobs.specs.Jobs.{Job, job, job-answer}
-use Rattle.jobs.specs.declared.Answer.{Answer}
-use Rattle.jobs.specs.declared.Answer.the-variants.{Done, Refused}
-use Rattle.night.specs.Night.{Memory, step, opened}
+use Rattle.night.specs.Night.{Memory, step, opened, Leaves}
 
 -- W = 2 and H = 4, depth 10 to 12, every component linear, no residual
 abbrev four-rows-header : Header
 four-rows-header = record { profile = 1; level = 0; d = 15; bl = 2; el = 2; hdr = 4; disabled = 1; columns = 1; pairs = 2; brightest = 1000; darkest = 1 }
-
-abbrev empty-piece : Piece
-empty-piece = record { idc = 0; order = 0; row = replicate 3 (pos 0) }
 
 abbrev linear-piece : Piece
 linear-piece = record { idc = 0; order = 0; row = pos 0 ∷ pos 32768 ∷ pos 0 ∷ [] }
@@ -28,7 +25,7 @@ linear =
     record {
       n = 0;
       preds = 0 ∷ 1023 ∷ replicate 15 0;
-      pieces = linear-piece ∷ replicate 16 empty-piece;
+      pieces = linear-piece ∷ replicate 16 zero-piece;
       nlq = record { offset = 0; maximum = 0; slope = 0; threshold = 0 };
     }
 
@@ -55,14 +52,14 @@ memory-2 = step (sent 0 1) memory-1
 abbrev memory-3 : Memory
 memory-3 = step (sent 1 1) memory-2
 
-abbrev answered : Job → Memory → Answer
+abbrev answered : Job → Memory → Outcome
 answered j m = job-answer j (m .output) (m .marks)
 
 pub record FourRows : Type 0 where
-  pub first : answered (sent 0 1) memory-0 ≡ Done 1
-  pub again : answered (sent 0 1) memory-1 ≡ Done 1
-  pub second : answered (sent 1 1) memory-2 ≡ Done 0
-  pub past : answered (sent 2 1) memory-3 ≡ Refused 10
+  pub first : Leaves (answered (sent 0 1) memory-0) 1
+  pub again : Leaves (answered (sent 0 1) memory-1) 1
+  pub second : Leaves (answered (sent 1 1) memory-2) 0
+  pub past : answered (sent 2 1) memory-3 .number ≡ 10
   -- after the first job its rows are composed, and the others are old; at the end all are composed
   pub torn : memory-1 .output ≡ 4 ∷ 8 ∷ 12 ∷ 16 ∷ 77 ∷ 77 ∷ 77 ∷ 77 ∷ 36 ∷ 77 ∷ 44 ∷ 77 ∷ []
   pub whole : memory-3 .output ≡ 4 ∷ 8 ∷ 12 ∷ 16 ∷ 20 ∷ 24 ∷ 28 ∷ 32 ∷ 36 ∷ 40 ∷ 44 ∷ 4092 ∷ []

@@ -5,12 +5,13 @@ use mathlib.Core.List.{List, [], _∷_, _++_}
 use Prim.Native.Nat.{ℕ, zero, suc, _+_, _<_}
 use lib.Dec.{eqb}
 use lib.ListN.{length, getD}
+use Rattle.refusals.specs.Outcomes.{Outcome}
 use Rattle.plan.specs.declared.Plan.{Plan}
-use Rattle.compose.specs.Picture.{pair-at}
+use Rattle.picture.specs.Picture.{pair-at}
+use Rattle.rules.specs.Rules.{extent, names}
 use Rattle.compose.specs.Composing.{composed-at}
 use Rattle.jobs.specs.Opening.{opening-accepted, opening-marks}
-use Rattle.jobs.specs.Jobs.{Job, accepted, names, output-after, marks-after, job-answer, complete}
-use Rattle.jobs.specs.declared.Answer.the-variants.{Done}
+use Rattle.jobs.specs.Jobs.{Job, accepted, output-after, marks-after, job-answer, rows-left, complete}
 
 -- the memory that jobs write, and what one job and then a sequence of jobs leaves in it
 pub record Memory : Type 0 where
@@ -31,7 +32,7 @@ opened p output marks = record { output = output; marks = opening-marks p marks 
 -- some accepted job of the sequence named row pair k; a and b are the lengths of the output and of the marks
 unfoldable pub named : ℕ → ℕ → List Job → ℕ → Bool
 named a b [] k = false
-named a b (j ∷ js) k = (accepted j a b && names j k) || named a b js k
+named a b (j ∷ js) k = (accepted j a b && names (j .work) k) || named a b js k
 
 -- how many of 0 .. n - 1 pass the test
 unfoldable pub count-below : (ℕ → Bool) → ℕ → ℕ
@@ -46,9 +47,9 @@ rows-left-after p a b js = count-below (λ k. not (named a b js k)) (p .header .
 -- it, the same enhancement samples. (The demand also has every job given the open ticket as the opening handed it back;
 -- the theorem holds without that.)
 pub record Keeps (p : Plan) (base enhancement : List ℕ) (a b : ℕ) (j : Job) : Type 0 where
-  pub same-plan : accepted j a b ≡ true → j .plan ≡ p
-  pub same-base : accepted j a b ≡ true → j .base ≡ base
-  pub same-enhancement : accepted j a b ≡ true → p .header .disabled ≡ 0 → j .enhancement ≡ enhancement
+  pub same-plan : accepted j a b ≡ true → j .work .plan ≡ p
+  pub same-base : accepted j a b ≡ true → j .work .base ≡ base
+  pub same-enhancement : accepted j a b ≡ true → p .header .disabled ≡ 0 → j .work .enhancement ≡ enhancement
 
 pub data AllKeep (p : Plan) (base enhancement : List ℕ) (a b : ℕ) : List Job → Type 0 where
   none : AllKeep p base enhancement a b []
@@ -59,20 +60,24 @@ pub data Sent (j : Job) : List Job → Type 0 where
   here : {js : List Job} → Sent j (j ∷ js)
   later : {i : Job} {js : List Job} → Sent j js → Sent j (i ∷ js)
 
+-- an accepted job answers the row pairs left, and says "complete" exactly where there is none
+pub record Leaves (o : Outcome) (left : ℕ) : Type 0 where
+  pub is-done : o .refused ≡ false
+  pub rows : rows-left o ≡ left
+  pub all : complete o ≡ eqb left 0
+
 -- what demand 3 says after the jobs js, and of one job more
 pub record StaysFinished (p : Plan) (base enhancement output marks : List ℕ) (js : List Job) : Type 0 where
   -- each row pair that some accepted job named holds what demand 2 says
-  pub composed : (i : ℕ) → i < length output → named (length output) (length marks) js (pair-at (p .header) i) ≡ true → getD (run js (opened p output marks) .output) i 0 ≡ composed-at p base enhancement i
+  pub composed : (i : ℕ) → i < length output → named (length output) (length marks) js (pair-at (extent (p .header)) i) ≡ true → getD (run js (opened p output marks) .output) i 0 ≡ composed-at p base enhancement i
   -- every other row is as at the opening
-  pub others : (i : ℕ) → i < length output → named (length output) (length marks) js (pair-at (p .header) i) ≡ false → getD (run js (opened p output marks) .output) i 0 ≡ getD output i 0
+  pub others : (i : ℕ) → i < length output → named (length output) (length marks) js (pair-at (extent (p .header)) i) ≡ false → getD (run js (opened p output marks) .output) i 0 ≡ getD output i 0
   -- the output is as long as it was
   pub size : length (run js (opened p output marks) .output) ≡ length output
-  -- the next job, if it is accepted, answers the row pairs that no accepted job so far, itself included, has named, and says
-  -- "complete" exactly where there is none
-  pub rows-left : (j : Job) → Keeps p base enhancement (length output) (length marks) j → accepted j (length output) (length marks) ≡ true →
-      (let answer = job-answer j (run js (opened p output marks) .output) (run js (opened p output marks) .marks) in
-      let left = rows-left-after p (length output) (length marks) (js ++ (j ∷ [])) in
-      (answer ≡ Done left) × (complete answer ≡ eqb left 0))
+  -- the next job, if it is accepted, answers the row pairs that no accepted job so far, itself included, has named
+  pub next : (j : Job) → Keeps p base enhancement (length output) (length marks) j → accepted j (length output) (length marks) ≡ true →
+      (let end = run js (opened p output marks) in
+      Leaves (job-answer j (end .output) (end .marks)) (rows-left-after p (length output) (length marks) (js ++ (j ∷ []))))
   -- and a job that was sent before changes nothing when it is sent again
   pub sent-again : (j : Job) → Sent j js → run (js ++ (j ∷ [])) (opened p output marks) ≡ run js (opened p output marks)
 

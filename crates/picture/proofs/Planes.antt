@@ -1,6 +1,6 @@
 -- The row pairs of a picture are those of its three planes. Assumes nothing.
 use mathlib.Core.Path.{_≡_, refl, sym, ap, ap₂, _∙_}
-use mathlib.Core.Bool.{Bool, true, false, _&&_, _||_, or-false, true≢false}
+use mathlib.Core.Bool.{Bool, true, false, _&&_, _||_, or-false, or-true, true≢false}
 use mathlib.Core.List.{List}
 use mathlib.Core.Logic.{⊎-elim}
 use Prim.Native.Nat.{ℕ, _+_, _-_, _*_, _/_, _≤_, _<_}
@@ -130,6 +130,16 @@ module _ (e : Extent) (some-columns : 1 ≤ e .columns) (selected : ℕ → Bool
       ∙ on (cr-plane e) i _ (omega arith) (ap (λ (n : ℕ). (i - n) / e .columns) (omega arith))))
       (lt-or-ge i (luma-size e + chroma-size e)))
       (lt-or-ge i (luma-size e))
+
+  -- a selected sample of a plane lies in a selected row pair of the picture
+  pub luma-selected : (i : ℕ) → in-rows (luma-plane e) selected i ≡ true → selected (pair-at e i) ≡ true
+  luma-selected i h = sym (in-planes i) ∙ rw h
+
+  pub cb-selected : (i : ℕ) → in-rows (cb-plane e) selected i ≡ true → selected (pair-at e i) ≡ true
+  cb-selected i h = sym (in-planes i) ∙ rw (h, or-true)
+
+  pub cr-selected : (i : ℕ) → in-rows (cr-plane e) selected i ≡ true → selected (pair-at e i) ≡ true
+  cr-selected i h = sym (in-planes i) ∙ rw (h, or-true)
 
   -- a test at the selected row pairs is one in each plane
   pub some-planes : (test : ℕ → Bool) (run : List ℕ) → some (λ i. selected (pair-at e i)) test run ≡ ((some (in-rows (luma-plane e) selected) test run || some (in-rows (cb-plane e) selected) test run) || some (in-rows (cr-plane e) selected) test run)

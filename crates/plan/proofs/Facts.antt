@@ -15,7 +15,7 @@ use Rattle.plan.specs.declared.Piece.{Piece}
 use Rattle.plan.specs.declared.Component.{Component}
 use Rattle.plan.specs.declared.Plan.{Plan}
 use Rattle.plan.specs.Ranges.{most-columns, most-pairs, format-tests, format-fits, size-tests, size-fits, header-fits, unsigned-fits}
-use Rattle.plan.specs.Rule7.{pivots-used, pieces-used, no-piece, row-fits, piece-fits, piece-empty, pivots-fit, pieces-fit, nlq-tests, nlq-fits, component-fits, fitting, no-plan}
+use Rattle.plan.specs.Rule7.{pivots-used, pieces-used, no-piece, row-fits, piece-fits, piece-empty, pivots-fit, pieces-fit, nlq-tests, nlq-fits, component-fits, usable, fitting, no-plan}
 use Rattle.plan.specs.Facts.{HeaderFacts, ComponentFacts, Arrays, Sized}
 use Rattle.plan.proofs.Truths.{both, each, inside, either-le, every-at, place-below}
 use Rattle.plan.proofs.Anywhere.{anywhere}
@@ -91,6 +91,17 @@ parts p e =
     let h = both (header-fits (p .header)) _ e in
     let y = both (component-fits (p .header) (p .y)) _ (h .1) in
     (h .0, (y .0, both (component-fits (p .header) (p .cb)) _ (y .1)))
+
+-- each component can be computed with
+module _ (p : Plan) (e : fitting p ≡ true) where
+  pub y-usable : usable (p .header) (p .y) ≡ true
+  y-usable = rw (parts p e .0, parts p e .1 .0)
+
+  pub cb-usable : usable (p .header) (p .cb) ≡ true
+  cb-usable = rw (parts p e .0, parts p e .1 .1 .0)
+
+  pub cr-usable : usable (p .header) (p .cr) ≡ true
+  cr-usable = rw (parts p e .0, parts p e .1 .1 .1)
 
 pub header-facts : (p : Plan) → fitting p ≡ true → HeaderFacts (p .header)
 header-facts p e = header-kept (p .header) (parts p e .0)

@@ -1,15 +1,10 @@
 -- What a plan gives the composing process: the parameters under the standard's names.
 use lib.IntN.{pos}
 use lib.ListN.{getD}
-use Rattle.standard.specs.Parameters.{Depths, Mapping, Quantization}
-use Rattle.plan.specs.declared.Header.{Header}
+use Rattle.standard.specs.Parameters.{Mapping, Quantization}
 use Rattle.plan.specs.declared.Component.{Component}
 use Rattle.plan.specs.declared.Nlq.{Nlq}
-use Rattle.plan.specs.Ranges.{bl-depth, el-depth, hdr-depth}
 use Rattle.plan.specs.Rule7.{no-piece}
-
-abbrev pub depths : Header → Depths
-depths h = record { BL-bit-depth = bl-depth h; EL-bit-depth = el-depth h; hdr-bit-depth = hdr-depth h; coefficient-log2-denom = h .d }
 
 abbrev pub mapping : Component → Mapping
 mapping c =

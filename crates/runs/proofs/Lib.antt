@@ -1,5 +1,6 @@
 pub mod Between
 pub mod Painting
+pub mod Parts
 pub mod Testing
 pub mod Counting
 pub mod Filling

@@ -2,13 +2,6 @@
 use Prim.Native.Nat.{ℕ, _*_, _^_}
 use lib.IntN.{ℤ, pos, _+ℤ_, _*ℤ_}
 
--- 5.3.2: the bit depths, and the number of fractional bits of every coefficient
-pub record Depths : Type 0 where
-  pub BL-bit-depth : ℕ
-  pub EL-bit-depth : ℕ
-  pub hdr-bit-depth : ℕ
-  pub coefficient-log2-denom : ℕ
-
 -- 5.3.2, 5.3.3: how one component is mapped; pieces and coefficients are counted from 0
 pub record Mapping : Type 0 where
   pub num-pivots-minus2 : ℕ

@@ -4,11 +4,13 @@ use native.Mathlib.Omega.{arith}
 use lib.ListN.{length}
 use borrow.Author.Needs.{needs}
 use borrow.Author.Tests.{not-true, not-false, eqb-true, eqb-false}
-use Rattle.plan.specs.Facts.{HeaderFacts}
-use Rattle.compose.specs.Composing.{refusal, number-of}
-use Rattle.compose.proofs.Accepting.{number-answer}
+use Rattle.refusals.specs.Outcomes.{Outcome}
+use Rattle.refusals.proofs.Laws.{outcome-number}
+use Rattle.plan.proofs.Facts.{header-facts}
+use Rattle.rules.specs.Rules.{refusal}
+use Rattle.rules.proofs.Accepting.{Accepted, accepted}
 use Rattle.jobs.specs.Jobs.{Job, job}
-use Rattle.jobs.proofs.Meaning.{asked, ticket-refused, marks-refused, composing-refused, composing-done, composing-inside}
+use Rattle.jobs.proofs.Meaning.{ticket-refused, marks-refused, composing-refused, composing-done}
 use Rattle.jobs.proofs.compose_job.Statement.{statement}
 use Rattle.jobs.proofs.compose_job.Tie as tie
 
@@ -35,16 +37,17 @@ numbered e = search needs
 abbrev given : tie.Else2 → Job
 given e = called (start (ticketed e))
 
-marks-fit : (e : tie.Else2) → length (start (ticketed e) .args .marks .now) ≡ given e .plan .header .pairs
+marks-fit : (e : tie.Else2) → length (start (ticketed e) .args .marks .now) ≡ given e .work .plan .header .pairs
 marks-fit e = eqb-true _ _ (sym (e .before .is-marked .ensures) ∙ not-false _ (e .if2 .left))
 
-number-is : (n : tie.After-number) → (let s = start (ticketed (marked n)) in n .number .result ≡ refusal (asked (called s) (s .args .output .now) (s .args .marks .now)) (length (s .args .output .now)))
+number-is : (n : tie.After-number) → (let s = start (ticketed (marked n)) in n .number .result ≡ refusal (called s .work) (length (s .args .output .now)))
 number-is n =
     let w : tie.After-compose-row-pairs = search needs in
-    n .number .ensures ∙ ap number-of (w .compose-row-pairs .ensures .0) ∙ number-answer _ _
+    n .number .ensures ∙ ap (λ (o : Outcome). o .number) (w .compose-row-pairs .ensures .0) ∙ outcome-number _ _
 
-inside : (e : tie.Else3) → (let j = given (marked (numbered e)) in HeaderFacts (j .plan .header) × (j .first + j .count ≤ j .plan .header .pairs))
-inside e = composing-inside _ _ (sym (number-is (numbered e)) ∙ e .if3 .left)
+-- what acceptance gives
+inside : (e : tie.Else3) → (let s = start (ticketed (marked (numbered e))) in Accepted (called s .work) (length (s .args .output .now)))
+inside e = accepted _ _ (sym (number-is (numbered e)) ∙ e .if3 .left)
 
 seven-or-requires : tie.Need-seven-or-requires
 seven-or-requires c κs = search needs
@@ -89,12 +92,12 @@ returns-3 c =
     (number-is n) (c .if3 .taken) (w .compose-row-pairs .ensures .1)
 
 add-last : tie.Need-add-last
-add-last c = omega (arith, inside c .0 .few-pairs, inside c .1)
+add-last c = let a = inside c in omega (arith, header-facts _ (a .fits) .few-pairs, a .sizes .pairs)
 
 mark-requires : tie.Need-mark-requires
 mark-requires c κs =
     let e : tie.Else3 = search needs in
-    (omega arith, omega (arith, inside e .1, marks-fit (marked (numbered e))))
+    (omega arith, omega (arith, inside e .sizes .pairs, marks-fit (marked (numbered e))))
 
 waiting-requires : tie.Need-waiting-requires
 waiting-requires c κs = search needs

@@ -1,0 +1,85 @@
+-- A row pair of a plane is lent as a part of each run, and what comes back is the run painted there; and so on, row pair by row pair. Assumes nothing.
+use mathlib.Core.Path.{_≡_, refl, sym, ap, ap₂, subst, _∙_}
+use mathlib.Core.Bool.{Bool, true, false, _||_}
+use mathlib.Core.List.{List}
+use Prim.Native.Nat.{ℕ, _+_, _-_, _*_, _%_, _<_, _≤_, min}
+use native.Mathlib.Nat.{mul-add, mul-le-mul-left}
+use native.Mathlib.Omega.{arith}
+use lib.ListN.{length, getD}
+use lib.Dec.{eqb}
+use borrow.Rule.Slice.PartMut.{putMid}
+use Rattle.runs.specs.Runs.{at, painted, between, below}
+use Rattle.runs.proofs.Between.{in-between, between-empty, between-more}
+use Rattle.runs.proofs.Painting.{length-painted, painted-none}
+use Rattle.runs.proofs.Parts.{part, length-part, at-part, painted-part}
+use Rattle.spans.specs.Spans.{entry, cut-of, looked-up, added-up}
+use Rattle.picture.specs.declared.Plane.{Plane}
+use Rattle.picture.specs.inner.Planes.{row-start, in-rows, InPlane}
+use Rattle.picture.proofs.Rows.{rows-more, rows-between}
+
+-- where row pair k ends
+row-end : (p : Plane) (k : ℕ) → row-start p k + p .row ≡ row-start p (k + 1)
+row-end p k = omega (arith, mul-add (p .row) k 1)
+
+module _ (p : Plane) (k : ℕ) (l : List ℕ) (g : InPlane p k (k + 1) (length l)) where
+  abbrev from : ℕ
+  from = row-start p k
+
+  abbrev to : ℕ
+  to = row-start p k + p .row
+
+  inside : to ≤ length l
+  inside = omega (arith, row-end p k, g .within)
+
+  pub lent-length : length (part from to l) ≡ to - from
+  lent-length = length-part from to l inside
+
+  -- the row pair put back into the output
+  row-back : (mid : List ℕ) (s : ℕ → Bool) (v f : ℕ → ℕ) → ((j : ℕ) → j < to - from → s j ≡ true) → ((j : ℕ) → j < to - from → v j ≡ f (from + j)) → mid ≡ painted s v (part from to l) → putMid from (to - from) l mid ≡ painted (between from (row-start p (k + 1))) f l
+  row-back mid s v f all same e =
+      ap (putMid from (to - from) l) e
+      ∙ painted-part from to l (omega arith) inside s v f all same
+      ∙ ap (λ (n : ℕ). painted (between from n) f l) (row-end p k)
+
+module _ (p : Plane) (k : ℕ) (base output mid : List ℕ) (b : InPlane p k (k + 1) (length base)) (o : InPlane p k (k + 1) (length output)) where
+  abbrev lent : List ℕ → List ℕ
+  lent l = part (row-start p k) (row-start p k + p .row) l
+
+  pub looked-up-row : (table : List ℕ) → mid ≡ painted (below (length (lent base))) (looked-up table (lent base)) (lent output) → putMid (row-start p k) (row-start p k + p .row - row-start p k) output mid ≡ painted (between (row-start p k) (row-start p (k + 1))) (looked-up table base) output
+  unfolding looked-up
+  looked-up-row table =
+      row-back p k output o mid _ _ _
+      (λ j h. in-between 0 (length (lent base)) j (omega arith) (omega (arith, lent-length p k base b)))
+      (λ j h. ap (entry table) (at-part _ _ base j h))
+
+  pub added-up-row : (enhancement mapped raised cuts : List ℕ) → InPlane p k (k + 1) (length enhancement) → mid ≡ painted (below (min (length (lent base)) (length (lent enhancement)))) (added-up mapped raised cuts (lent base) (lent enhancement)) (lent output) → putMid (row-start p k) (row-start p k + p .row - row-start p k) output mid ≡ painted (between (row-start p k) (row-start p (k + 1))) (added-up mapped raised cuts base enhancement) output
+  unfolding added-up
+  added-up-row enhancement mapped raised cuts e =
+      row-back p k output o mid _ _ _
+      (λ j h. in-between 0 (min (length (lent base)) (length (lent enhancement))) j (omega arith) (omega (arith, lent-length p k base b, lent-length p k enhancement e)))
+      (λ j h. ap₂ (λ (x y : ℕ). cut-of cuts (entry mapped x + entry raised y)) (at-part _ _ base j h) (at-part _ _ enhancement j h))
+
+-- ---- the loop over row pairs: painted so far
+module _ (p : Plane) (first last n : ℕ) (g : InPlane p first last n) (f : ℕ → ℕ) (l : List ℕ) where
+  pub rows-begun : l ≡ painted (in-rows p (between first first)) f l
+  unfolding in-rows
+  rows-begun = sym (painted-none _ f l (λ i b. rows-between p first first i (g .some-columns) ∙ between-empty _ i))
+
+  pub rows-on : (k : ℕ) (now after : List ℕ) → first ≤ k → now ≡ painted (in-rows p (between first k)) f l → after ≡ painted (between (row-start p k) (row-start p (k + 1))) f now → after ≡ painted (in-rows p (between first (k + 1))) f l
+  rows-on k now after h e q =
+      q
+      ∙ ap (painted _ f) e
+      ∙ rows-more p (between first k) (between first (k + 1)) k f l (g .some-columns) (λ j. sym (between-more first k j h))
+
+  -- row pair k of those that are named
+  pub row-of : (k : ℕ) → first ≤ k → k < last → InPlane p k (k + 1) n
+  row-of k h b = record { some-columns = g .some-columns; forward = omega arith; within = omega (arith, mul-le-mul-left (p .row) b, mul-add (p .row) k 1, g .within) }
+
+-- the same in an output that is painted already
+pub row-of-painted : (p : Plane) (first last : ℕ) (s : ℕ → Bool) (f : ℕ → ℕ) (l now : List ℕ) → InPlane p first last (length l) → now ≡ painted s f l → (k : ℕ) → first ≤ k → k < last → InPlane p k (k + 1) (length now)
+row-of-painted p first last s f l now g e k h b =
+    subst (λ (n : ℕ). InPlane p k (k + 1) n) (sym (ap length e ∙ length-painted s f l)) (row-of p first last (length l) g f l k h b)
+
+-- after the last one
+pub rows-ended : (p : Plane) (first last k : ℕ) (f : ℕ → ℕ) (l now : List ℕ) → k ≤ last → last ≤ k → now ≡ painted (in-rows p (between first k)) f l → now ≡ painted (in-rows p (between first last)) f l
+rows-ended p first last k f l now a b e = let q : k ≡ last = omega arith in e ∙ ap (λ (n : ℕ). painted (in-rows p (between first n)) f l) q

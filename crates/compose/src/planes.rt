@@ -1,0 +1,101 @@
+// Row pairs composed plane by plane: a plane's tables are made once a call, and its row pairs go by them.
+use crate::rows::Rows;
+use crate::rows::add_up_rows;
+use crate::rows::look_up_rows;
+use mapping::mapped_table;
+use picture::Plane;
+use picture::cb_plane;
+use picture::cr_plane;
+use picture::luma_plane;
+use plan::Component;
+use plan::Header;
+use plan::Plan;
+use residual::cut_table;
+use residual::finished_table;
+use residual::residual_table;
+use rules::extent_of;
+ghost use mathlib.Core.Path.{_≡_};
+ghost use mathlib.Core.Bool.{true};
+ghost use Prim.Native.Nat.{_^_};
+ghost use lib.ListN.{length};
+ghost use Rattle.runs.specs.Runs.{painted, between};
+ghost use Rattle.picture.specs.Picture.{in-pairs};
+ghost use Rattle.picture.specs.inner.Planes.{in-rows, InPicture};
+ghost use Rattle.plan.specs.Ranges.{bl-depth, el-depth};
+ghost use Rattle.plan.specs.Rule7.{usable, fitting};
+ghost use Rattle.residual.specs.Tables.{cut-table};
+ghost use Rattle.rules.specs.Rules.{extent};
+ghost use Rattle.compose.specs.inner.Rows.{RowsIn, CodesIn, CodesInPicture, plain-at, enhanced-at, by-component};
+
+fn plain_plane(h: Header, c: Component, p: Plane, r: Rows, base: &[u16], output: &mut [u16])
+    requires { ⌜ usable h c ≡ true ⌝ }
+    requires { ⌜ CodesIn p r (2 ^ bl-depth h) (now base) ⌝ }
+    requires { ⌜ RowsIn p r (now output) ⌝ }
+    ensures { λ _. ⌜ now (output .exit) ≡ painted (in-rows p (between (r .first) (r .last))) (plain-at h c (now (base .entry))) (now (output .entry)) ⌝ }
+{
+    let mapped = mapped_table(h, c);
+    let finished = finished_table(h, &mapped);
+    look_up_rows(&finished, p, r, base, output);
+}
+
+fn enhanced_plane(
+    h: Header,
+    c: Component,
+    cuts: &[u16; 16384],
+    p: Plane,
+    r: Rows,
+    base: &[u16],
+    enhancement: &[u16],
+    output: &mut [u16],
+)
+    requires { ⌜ usable h c ≡ true ⌝ }
+    requires { ⌜ now cuts ≡ cut-table h ⌝ }
+    requires { ⌜ CodesIn p r (2 ^ bl-depth h) (now base) ⌝ }
+    requires { ⌜ CodesIn p r (2 ^ el-depth h) (now enhancement) ⌝ }
+    requires { ⌜ RowsIn p r (now output) ⌝ }
+    ensures { λ _. ⌜ now (output .exit) ≡ painted (in-rows p (between (r .first) (r .last))) (enhanced-at h c (now (base .entry)) (now (enhancement .entry))) (now (output .entry)) ⌝ }
+{
+    let mapped = mapped_table(h, c);
+    let raised = residual_table(h, c);
+    add_up_rows(&mapped, &raised, cuts, p, r, base, enhancement, output);
+}
+
+pub(crate) fn plain_planes(plan: Plan, r: Rows, base: &[u16], output: &mut [u16])
+    requires { ⌜ fitting plan ≡ true ⌝ }
+    requires { ⌜ CodesInPicture (extent (plan .header)) r (2 ^ bl-depth (plan .header)) (now base) ⌝ }
+    requires { ⌜ InPicture (extent (plan .header)) (r .first) (r .last) (length (now output)) ⌝ }
+    ensures { λ _. ⌜ now (output .exit) ≡ painted (in-pairs (extent (plan .header)) (r .first) (r .last)) (by-component plan (λ c. plain-at (plan .header) c (now (base .entry)))) (now (output .entry)) ⌝ }
+{
+    let h = plan.header;
+    let e = extent_of(h);
+    let y = plan.y;
+    let cb = plan.cb;
+    let cr = plan.cr;
+    plain_plane(h, y, luma_plane(e), r, base, output);
+    plain_plane(h, cb, cb_plane(e), r, base, output);
+    plain_plane(h, cr, cr_plane(e), r, base, output);
+}
+
+pub(crate) fn enhanced_planes(
+    plan: Plan,
+    r: Rows,
+    base: &[u16],
+    enhancement: &[u16],
+    output: &mut [u16],
+)
+    requires { ⌜ fitting plan ≡ true ⌝ }
+    requires { ⌜ CodesInPicture (extent (plan .header)) r (2 ^ bl-depth (plan .header)) (now base) ⌝ }
+    requires { ⌜ CodesInPicture (extent (plan .header)) r (2 ^ el-depth (plan .header)) (now enhancement) ⌝ }
+    requires { ⌜ InPicture (extent (plan .header)) (r .first) (r .last) (length (now output)) ⌝ }
+    ensures { λ _. ⌜ now (output .exit) ≡ painted (in-pairs (extent (plan .header)) (r .first) (r .last)) (by-component plan (λ c. enhanced-at (plan .header) c (now (base .entry)) (now (enhancement .entry)))) (now (output .entry)) ⌝ }
+{
+    let h = plan.header;
+    let e = extent_of(h);
+    let y = plan.y;
+    let cb = plan.cb;
+    let cr = plan.cr;
+    let cuts = cut_table(h);
+    enhanced_plane(h, y, &cuts, luma_plane(e), r, base, enhancement, output);
+    enhanced_plane(h, cb, &cuts, cb_plane(e), r, base, enhancement, output);
+    enhanced_plane(h, cr, &cuts, cr_plane(e), r, base, enhancement, output);
+}

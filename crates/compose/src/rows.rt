@@ -1,0 +1,84 @@
+// Row pairs of one plane, one after the other, by tables that are made once a call. Each row pair is a part of the runs.
+use picture::Plane;
+use spans::add_up;
+use spans::look_up;
+ghost use mathlib.Core.Path.{_≡_};
+ghost use Prim.Native.Nat.{_+_};
+ghost use lib.ListN.{length};
+ghost use Rattle.runs.specs.Runs.{painted, between};
+ghost use Rattle.spans.specs.Spans.{looked-up, added-up};
+ghost use Rattle.picture.specs.inner.Planes.{row-start, in-rows, InPlane};
+ghost use Rattle.compose.specs.inner.Rows.{RowsIn};
+
+// The row pairs from `first` up to, but not including, `last`.
+pub(crate) struct Rows {
+    pub first: usize,
+    pub last: usize,
+}
+
+fn look_up_row(table: &[u16; 1024], p: Plane, k: usize, base: &[u16], output: &mut [u16])
+    requires { ⌜ InPlane p k (k + 1) (length (now base)) × InPlane p k (k + 1) (length (now output)) ⌝ }
+    ensures { λ _. ⌜ now (output .exit) ≡ painted (between (row-start p k) (row-start p (k + 1))) (looked-up (now (table .entry)) (now (base .entry))) (now (output .entry)) ⌝ }
+{
+    let a = p.start + p.row * k;
+    let b = a + p.row;
+    look_up(table, &base[a..b], &mut output[a..b]);
+}
+
+pub(crate) fn look_up_rows(table: &[u16; 1024], p: Plane, r: Rows, base: &[u16], output: &mut [u16])
+    requires { ⌜ RowsIn p r (now base) × RowsIn p r (now output) ⌝ }
+    ensures { λ _. ⌜ now (output .exit) ≡ painted (in-rows p (between (r .first) (r .last))) (looked-up (now (table .entry)) (now (base .entry))) (now (output .entry)) ⌝ }
+{
+    let last = r.last;
+    let mut k = r.first;
+    while k < last {
+        look_up_row(table, p, k, base, output);
+        k += 1;
+    }
+}
+
+fn add_up_row(
+    mapped: &[u16; 1024],
+    raised: &[u32; 1024],
+    cuts: &[u16; 16384],
+    p: Plane,
+    k: usize,
+    base: &[u16],
+    enhancement: &[u16],
+    output: &mut [u16],
+)
+    requires { ⌜ InPlane p k (k + 1) (length (now base)) × (InPlane p k (k + 1) (length (now enhancement)) × InPlane p k (k + 1) (length (now output))) ⌝ }
+    ensures { λ _. ⌜ now (output .exit) ≡ painted (between (row-start p k) (row-start p (k + 1))) (added-up (now (mapped .entry)) (now (raised .entry)) (now (cuts .entry)) (now (base .entry)) (now (enhancement .entry))) (now (output .entry)) ⌝ }
+{
+    let a = p.start + p.row * k;
+    let b = a + p.row;
+    add_up(
+        mapped,
+        raised,
+        cuts,
+        &base[a..b],
+        &enhancement[a..b],
+        &mut output[a..b],
+    );
+}
+
+pub(crate) fn add_up_rows(
+    mapped: &[u16; 1024],
+    raised: &[u32; 1024],
+    cuts: &[u16; 16384],
+    p: Plane,
+    r: Rows,
+    base: &[u16],
+    enhancement: &[u16],
+    output: &mut [u16],
+)
+    requires { ⌜ RowsIn p r (now base) × (RowsIn p r (now enhancement) × RowsIn p r (now output)) ⌝ }
+    ensures { λ _. ⌜ now (output .exit) ≡ painted (in-rows p (between (r .first) (r .last))) (added-up (now (mapped .entry)) (now (raised .entry)) (now (cuts .entry)) (now (base .entry)) (now (enhancement .entry))) (now (output .entry)) ⌝ }
+{
+    let last = r.last;
+    let mut k = r.first;
+    while k < last {
+        add_up_row(mapped, raised, cuts, p, k, base, enhancement, output);
+        k += 1;
+    }
+}
