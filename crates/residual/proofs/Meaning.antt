@@ -1,0 +1,82 @@
+-- What stands in the three tables. Assumes nothing.
+use mathlib.Core.Path.{_≡_, refl, sym, ap, _∙_}
+use mathlib.Core.Bool.{Bool, true, false, cond, _&&_}
+use mathlib.Core.List.{List}
+use Prim.Native.Nat.{ℕ, _+_, _/_, _%_, _<_, _≤_, _^_}
+use native.Mathlib.Nat.{lt-of-lt-of-le, mod-eq-of-lt}
+use native.Mathlib.Omega.{arith}
+use lib.IntN.{ℤ, pos}
+use lib.Pow.{pow-mono}
+use borrow.Author.Tests.{lt-ltb, le-ltb}
+use Rattle.runs.specs.Runs.{at}
+use Rattle.runs.specs.Tables.{table}
+use Rattle.runs.proofs.Tables.{at-table}
+use Rattle.standard.specs.Residual.{residual}
+use Rattle.standard.specs.Reconstruction.{reconstructed}
+use Rattle.plan.specs.declared.Header.{Header}
+use Rattle.plan.specs.declared.Component.{Component}
+use Rattle.plan.specs.Parameters.{quantization}
+use Rattle.plan.specs.Ranges.{el-depth, hdr-depth, header-fits}
+use Rattle.plan.specs.Rule7.{usable}
+use Rattle.plan.proofs.Facts.{header-kept}
+use Rattle.plan.proofs.Truths.{both}
+use Rattle.residual.specs.Raising.{raised, lowered}
+use Rattle.residual.specs.Tables.{residual-code, residual-table, finished-code, finished-table, cut-code, cut-table}
+use Rattle.residual.specs.Steps.{finished-by}
+use Rattle.residual.proofs.Raising.{lowered-raised, sum-less}
+
+module _ (h : Header) (c : Component) where
+  pub code-raised : usable h c ≡ true → (e : ℕ) → e < 2 ^ el-depth h → residual-code h c e ≡ raised (hdr-depth h) (residual (el-depth h) (h .d) (quantization (c .nlq)) e)
+  unfolding residual-code
+  code-raised u e b = rw (u, lt-ltb e (2 ^ el-depth h) b)
+
+  pub past-codes : (e : ℕ) → 2 ^ el-depth h ≤ e → 0 ≡ residual-code h c e
+  unfolding residual-code
+  past-codes e b = rw (le-ltb e (2 ^ el-depth h) b) (go (usable h c))
+    where
+      go : (u : Bool) → 0 ≡ cond (u && false) (raised (hdr-depth h) (residual (el-depth h) (h .d) (quantization (c .nlq)) e)) 0
+      go true = refl
+      go false = refl
+
+  pub not-usable : usable h c ≡ false → (e : ℕ) → 0 ≡ residual-code h c e
+  unfolding residual-code
+  not-usable u e = rw u
+
+  -- for whoever looks a sample up
+  pub raised-found : usable h c ≡ true → (e : ℕ) → e < 2 ^ el-depth h → at (residual-table h c) (e % 1024) ≡ raised (hdr-depth h) (residual (el-depth h) (h .d) (quantization (c .nlq)) e)
+  unfolding residual-table
+  raised-found u e b =
+      let f = header-kept h (both (header-fits h) _ u .0) in
+      let k : e < 1024 = lt-of-lt-of-le b (pow-mono {j = 10} (omega (arith, f .base-depth, f .same-depth))) in
+      rw (mod-eq-of-lt k, at-table 1024 (residual-code h c) e k) (code-raised u e b)
+
+module _ (h : Header) (u : header-fits h ≡ true) where
+  pub finished-is : (mapped : List ℕ) → table 1024 (finished-by (hdr-depth h) mapped) ≡ finished-table h mapped
+  unfolding finished-table finished-code finished-by
+  finished-is mapped = ap (λ (b : Bool). table 1024 (λ s. cond b (reconstructed (hdr-depth h) (at mapped s) (pos 0)) 0)) (sym u)
+
+  pub cuts-are : table 16384 (lowered (hdr-depth h)) ≡ cut-table h
+  unfolding cut-table cut-code
+  cuts-are = ap (λ (b : Bool). table 16384 (λ k. cond b (lowered (hdr-depth h) k) 0)) (sym u)
+
+  -- for whoever looks a mapped sample, or a sum, up
+  pub finished-found : (mapped : List ℕ) (s : ℕ) → s < 1024 → at (finished-table h mapped) s ≡ reconstructed (hdr-depth h) (at mapped s) (pos 0)
+  unfolding finished-table finished-code
+  finished-found mapped s b = at-table 1024 (finished-code h mapped) s b ∙ rw u
+
+  pub cut-found : (v : ℕ) (r : ℤ) → v ≤ 65535 → at (cut-table h) ((v + raised (hdr-depth h) r) / 16 % 16384) ≡ reconstructed (hdr-depth h) v r
+  unfolding cut-table cut-code
+  cut-found v r small =
+      let k : (v + raised (hdr-depth h) r) / 16 < 16384 = omega (arith, sum-less (hdr-depth h) v r small) in
+      rw (mod-eq-of-lt k, at-table 16384 (cut-code h) ((v + raised (hdr-depth h) r) / 16) k, u)
+      (lowered-raised (hdr-depth h) (omega (arith, header-kept h u .out-depth)) v r small)
+
+-- a header that cannot be computed with
+module _ (h : Header) (u : header-fits h ≡ false) where
+  pub not-finished : (mapped : List ℕ) (s : ℕ) → 0 ≡ finished-code h mapped s
+  unfolding finished-code
+  not-finished mapped s = rw u
+
+  pub no-cuts : (k : ℕ) → 0 ≡ cut-code h k
+  unfolding cut-code
+  no-cuts k = rw u

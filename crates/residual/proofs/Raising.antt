@@ -1,0 +1,116 @@
+-- The HDR sample by a raised residual and a cut sum is the standard's. Assumes nothing.
+use mathlib.Core.Path.{_≡_, refl, sym, ap, subst, _∙_}
+use mathlib.Core.Bool.{Bool, true, false, cond, true≢false}
+use mathlib.Core.Logic.{⊎-elim}
+use Prim.Native.Nat.{ℕ, suc, _+_, _-_, _*_, _/_, _^_, _<_, _≤_, min}
+use native.Mathlib.Nat.{le-trans, le-of-eq, add-zero, add-comm, mul-assoc, add-mul-div-right, div-le-self, div-lt-iff-lt-mul, le-div-iff-mul-le, div-div-eq-div-mul}
+use native.Mathlib.Omega.{arith}
+use lib.Dec.{T, ltb}
+use lib.IntN.{ℤ, pos, negsuc, natAbs, _+ℤ_, +ℤ-assoc}
+use lib.Pow.{pow-pos, pow-add, pow-mono}
+use lib.Signed.{ltZ, shrZ, nonNeg}
+use borrow.Author.Tests.{ltb-true, ltb-false}
+use mir.Syntax.{w32}
+use mir.Val.{Fits}
+use Rattle.runs.proofs.Between.{lt-or-ge}
+use Rattle.words.proofs.Holding.{Holds, Small, number}
+use Rattle.standard.specs.Mapping.{from-zero}
+use Rattle.standard.specs.Reconstruction.{reconstructed}
+use Rattle.residual.specs.Raising.{raised, lowered}
+
+-- a call's result that is a power of two
+pub as-power : (k n : ℕ) {p : ℕ} → k ≤ n → Small (2 ^ n) → p ≡ 2 ^ k → Holds p (pos p) (2 ^ n)
+as-power k n h t e = number (le-trans (le-of-eq e) (pow-mono h)) t
+
+-- a number against a bound
+pub over : (z : ℤ) (n : ℕ) → ltZ (pos n) z ≡ true → n < from-zero z
+over (pos a) n e = ltb-true n a e
+over (negsuc a) n e = absurd (true≢false (sym e))
+
+pub not-over : (z : ℤ) (n : ℕ) → ltZ (pos n) z ≡ false → from-zero z ≤ n
+not-over (pos a) n e = ltb-false n a e
+not-over (negsuc a) n e = omega arith
+
+-- what is neither below 0 nor above 2 ^ 17 is cast to 32 bits
+pub cast-small : (z : ℤ) → ltZ z (pos 0) ≡ false → ltZ (pos 131072) z ≡ false → T (nonNeg z) × Fits w32 (natAbs z)
+cast-small (pos n) e k = (tt, record { fits = omega (arith, ltb-false 131072 n k) })
+cast-small (negsuc n) e k = absurd (true≢false e)
+
+-- a difference after the shift is one before it
+shifted : (x : ℤ) (k n : ℕ) → 0 < n → from-zero (shrZ x n) ≡ from-zero (x +ℤ pos (k * n)) / n - k
+shifted (pos a) k n p = omega (arith, add-mul-div-right a k p)
+shifted (negsuc a) k n p = go (ltb (k * n) (suc a)) refl
+  where
+    go : (t : Bool) → ltb (k * n) (suc a) ≡ t → 0 ≡ from-zero (cond t (negsuc (suc a - suc (k * n))) (pos (k * n - suc a))) / n - k
+    go true e = omega (arith, div-le-self 0 n)
+    go false e = omega (arith, ltb-false (k * n) (suc a) e, div-lt-iff-lt-mul {x = k * n - suc a} {y = k} p .1 (omega (arith, ltb-false (k * n) (suc a) e)))
+
+less : (v b : ℕ) → from-zero (pos v +ℤ negsuc b) ≤ v
+less v b = go (ltb v (suc b))
+  where
+    go : (t : Bool) → from-zero (cond t (negsuc (suc b - suc v)) (pos (v - suc b))) ≤ v
+    go true = omega arith
+    go false = omega arith
+
+module _ (out : ℕ) (h : out ≤ 12) where
+  -- 2 ^ 12 before the last shift is 2 ^ out after it, and a sixteenth is the first of two shifts
+  size : 2 ^ out * 2 ^ (12 - out) ≡ 4096
+  size = let e : out + (12 - out) ≡ 12 = omega arith in sym (pow-add 2 out (12 - out)) ∙ ap (λ (n : ℕ). 2 ^ n) e
+
+  sixteenth : (n : ℕ) → n / 16 / 2 ^ (12 - out) ≡ n / 2 ^ (16 - out)
+  sixteenth n =
+      let e : 4 + (12 - out) ≡ 16 - out = omega arith in
+      div-div-eq-div-mul n 16 (2 ^ (12 - out)) ∙ ap (λ (m : ℕ). n / m) (sym (pow-add 2 4 (12 - out)) ∙ ap (λ (n : ℕ). 2 ^ n) e)
+
+  from : (c k : ℕ) → c * 4096 ≤ k → c * 2 ^ out ≤ k / 2 ^ (12 - out)
+  from c k b = le-div-iff-mul-le (pow-pos (12 - out)) .1 (rw (mul-assoc, size) b)
+
+  under : (c k : ℕ) → k < c * 4096 → k / 2 ^ (12 - out) < c * 2 ^ out
+  under c k b = div-lt-iff-lt-mul (pow-pos (12 - out)) .1 (rw (mul-assoc, size) b)
+
+  -- the three parts of a table of cuts
+  pub lowered-zero : (k : ℕ) → k < 4096 → lowered out k ≡ 0
+  unfolding lowered
+  lowered-zero k b = omega (arith, under 1 k (omega arith))
+
+  pub lowered-ramp : (k : ℕ) → 4096 ≤ k → k < 8192 → (2 ^ out ≤ k / 2 ^ (12 - out)) × (k / 2 ^ (12 - out) - 2 ^ out ≡ lowered out k)
+  unfolding lowered
+  lowered-ramp k a b = (omega (arith, from 1 k (omega arith)), omega (arith, from 1 k (omega arith), under 2 k (omega arith), pow-pos out))
+
+  pub lowered-most : (k : ℕ) → 8192 ≤ k → 2 ^ out - 1 ≡ lowered out k
+  unfolding lowered
+  lowered-most k a = omega (arith, from 2 k (omega arith))
+
+  -- the standard's sample is the cut of the sum before the residual is cut
+  whole : (v : ℕ) (r : ℤ) → reconstructed out v r ≡ lowered out (from-zero (pos v +ℤ (r +ℤ pos (2 ^ 16 + 2 ^ (15 - out)))) / 16)
+  unfolding reconstructed lowered
+  whole v r =
+      let half = 2 ^ (15 - out) in
+      let e : out + (16 - out) ≡ 16 = omega arith in
+      let bias : 2 ^ out * 2 ^ (16 - out) ≡ 2 ^ 16 = sym (pow-add 2 out (16 - out)) ∙ ap (λ (n : ℕ). 2 ^ n) e in
+      let sum : pos v +ℤ r +ℤ pos half +ℤ pos (2 ^ 16) ≡ pos v +ℤ (r +ℤ pos (2 ^ 16 + half)) =
+      +ℤ-assoc (pos v +ℤ r) (pos half) (pos (2 ^ 16)) ∙ +ℤ-assoc (pos v) r (pos half +ℤ pos (2 ^ 16)) ∙ ap (λ (n : ℕ). pos v +ℤ (r +ℤ pos n)) (add-comm half (2 ^ 16)) in
+      ap (λ (n : ℕ). min n (2 ^ out - 1))
+      (shifted (pos v +ℤ r +ℤ pos half) (2 ^ out) (2 ^ (16 - out)) (pow-pos (16 - out)) ∙ rw (bias, sum, sixteenth))
+
+  cut-sum : (v : ℕ) → v ≤ 65535 → (z : ℤ) → lowered out ((v + min (from-zero z) (2 ^ 17)) / 16) ≡ lowered out (from-zero (pos v +ℤ z) / 16)
+  cut-sum v small (pos a) = ⊎-elim
+      (λ p. sym (lowered-most ((v + min a (2 ^ 17)) / 16) (omega arith)) ∙ lowered-most ((v + a) / 16) (omega arith))
+      (λ p. let e : min a (2 ^ 17) ≡ a = omega arith in rw e)
+      (lt-or-ge (2 ^ 17) a)
+  cut-sum v small (negsuc b) =
+      lowered-zero ((v + min 0 (2 ^ 17)) / 16) (omega arith) ∙ sym (lowered-zero (from-zero (pos v +ℤ negsuc b) / 16) (omega (arith, less v b)))
+
+  -- a mapped sample and a raised residual, added and cut by the table
+  pub lowered-raised : (v : ℕ) (r : ℤ) → v ≤ 65535 → lowered out ((v + raised out r) / 16) ≡ reconstructed out v r
+  unfolding raised
+  lowered-raised v r small = cut-sum v small (r +ℤ pos (2 ^ 16 + 2 ^ (15 - out))) ∙ sym (whole v r)
+
+pub sum-less : (out v : ℕ) (r : ℤ) → v ≤ 65535 → (v + raised out r) / 16 < 12288
+unfolding raised
+sum-less out v r small = omega arith
+
+-- a sample without residual
+pub plain : (out v : ℕ) → reconstructed out v (pos 0) ≡ min ((v + 2 ^ (15 - out)) / 2 ^ (16 - out)) (2 ^ out - 1)
+unfolding reconstructed
+plain out v = rw add-zero
