@@ -4,9 +4,7 @@ use crate::rows::add_up_rows;
 use crate::rows::look_up_rows;
 use mapping::mapped_table;
 use picture::Plane;
-use picture::cb_plane;
-use picture::cr_plane;
-use picture::luma_plane;
+use picture::planes_of;
 use plan::Component;
 use plan::Header;
 use plan::Plan;
@@ -67,13 +65,13 @@ pub(crate) fn plain_planes(plan: Plan, r: Rows, base: &[u16], output: &mut [u16]
     ensures { λ _. ⌜ now (output .exit) ≡ painted (in-pairs (extent (plan .header)) (r .first) (r .last)) (by-component plan (λ c. plain-at (plan .header) c (now (base .entry)))) (now (output .entry)) ⌝ }
 {
     let h = plan.header;
-    let e = extent_of(h);
+    let p = planes_of(extent_of(h));
     let y = plan.y;
     let cb = plan.cb;
     let cr = plan.cr;
-    plain_plane(h, y, luma_plane(e), r, base, output);
-    plain_plane(h, cb, cb_plane(e), r, base, output);
-    plain_plane(h, cr, cr_plane(e), r, base, output);
+    plain_plane(h, y, p.y, r, base, output);
+    plain_plane(h, cb, p.cb, r, base, output);
+    plain_plane(h, cr, p.cr, r, base, output);
 }
 
 pub(crate) fn enhanced_planes(
@@ -90,12 +88,12 @@ pub(crate) fn enhanced_planes(
     ensures { λ _. ⌜ now (output .exit) ≡ painted (in-pairs (extent (plan .header)) (r .first) (r .last)) (by-component plan (λ c. enhanced-at (plan .header) c (now (base .entry)) (now (enhancement .entry)))) (now (output .entry)) ⌝ }
 {
     let h = plan.header;
-    let e = extent_of(h);
+    let p = planes_of(extent_of(h));
     let y = plan.y;
     let cb = plan.cb;
     let cr = plan.cr;
     let cuts = cut_table(h);
-    enhanced_plane(h, y, &cuts, luma_plane(e), r, base, enhancement, output);
-    enhanced_plane(h, cb, &cuts, cb_plane(e), r, base, enhancement, output);
-    enhanced_plane(h, cr, &cuts, cr_plane(e), r, base, enhancement, output);
+    enhanced_plane(h, y, &cuts, p.y, r, base, enhancement, output);
+    enhanced_plane(h, cb, &cuts, p.cb, r, base, enhancement, output);
+    enhanced_plane(h, cr, &cuts, p.cr, r, base, enhancement, output);
 }

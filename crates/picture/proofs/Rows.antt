@@ -12,7 +12,7 @@ use Rattle.runs.specs.Runs.{painted, between}
 use Rattle.runs.proofs.Between.{lt-or-ge, in-between, under-between, between-true, between-one}
 use Rattle.runs.proofs.Painting.{painted-cong, painted-over}
 use Rattle.picture.specs.declared.Plane.{Plane}
-use Rattle.picture.specs.inner.Planes.{row-start, in-rows}
+use Rattle.picture.specs.inner.Planes.{row-start, in-rows, InPlane}
 
 -- two tests that imply each other are equal
 iff : (a b : Bool) → (a ≡ true → b ≡ true) → (b ≡ true → a ≡ true) → a ≡ b
@@ -40,6 +40,10 @@ rows-between p a b i some = ⊎-elim
     (λ u. ap (λ (x : Bool). x && between a b ((i - p .start) / p .row)) (lt-leb (p .start) i u) ∙ sym (under-between _ _ i (omega arith)))
     (λ u. ap (λ (x : Bool). x && between a b ((i - p .start) / p .row)) (le-leb (p .start) i u) ∙ between-div (p .row) a b (i - p .start) some ∙ between-sub (p .start) _ _ i u)
     (lt-or-ge i (p .start))
+
+-- a sample of row pairs that lie in a run is one of the run
+pub rows-inside : (p : Plane) (first last n i : ℕ) → InPlane p first last n → in-rows p (between first last) i ≡ true → i < n
+rows-inside p first last n i g h = omega (arith, between-true _ _ i (sym (rows-between p first last i (g .some-columns)) ∙ h), g .within)
 
 -- one row pair more
 pub rows-more : (p : Plane) (s t : ℕ → Bool) (k : ℕ) (f : ℕ → ℕ) (l : List ℕ) → 1 ≤ p .row → ((j : ℕ) → (s j || eqb j k) ≡ t j) → painted (between (row-start p k) (row-start p (k + 1))) f (painted (in-rows p s) f l) ≡ painted (in-rows p t) f l

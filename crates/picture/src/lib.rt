@@ -2,7 +2,7 @@
 ghost use mathlib.Core.Path.{_≡_};
 ghost use Prim.Native.Nat.{_*_, _≤_, _^_};
 ghost use Rattle.picture.specs.Picture.{picture-size};
-ghost use Rattle.picture.specs.inner.Planes.{luma-plane, cb-plane, cr-plane};
+ghost use Rattle.picture.specs.inner.Planes.{planes};
 
 // The size of a picture: W is twice `columns`, and H twice `pairs`. Whatever they are, no product of them wraps.
 pub struct Extent {
@@ -14,6 +14,12 @@ pub struct Extent {
 pub struct Plane {
     pub start: usize,
     pub row: usize,
+}
+
+pub struct Planes {
+    pub y: Plane,
+    pub cb: Plane,
+    pub cr: Plane,
 }
 
 fn chroma_size(columns: u16, pairs: u16) -> usize
@@ -29,29 +35,23 @@ pub fn picture_size(e: Extent) -> usize
     6 * chroma_size(e.columns, e.pairs)
 }
 
-pub fn luma_plane(e: Extent) -> Plane
-    ensures { λ r. ⌜ r ≡ luma-plane e ⌝ }
+pub fn planes_of(e: Extent) -> Planes
+    ensures { λ r. ⌜ r ≡ planes e ⌝ }
 {
-    Plane {
-        start: 0,
-        row: 4 * (e.columns as usize),
-    }
-}
-
-pub fn cb_plane(e: Extent) -> Plane
-    ensures { λ r. ⌜ r ≡ cb-plane e ⌝ }
-{
-    Plane {
-        start: 4 * chroma_size(e.columns, e.pairs),
-        row: e.columns as usize,
-    }
-}
-
-pub fn cr_plane(e: Extent) -> Plane
-    ensures { λ r. ⌜ r ≡ cr-plane e ⌝ }
-{
-    Plane {
-        start: 5 * chroma_size(e.columns, e.pairs),
-        row: e.columns as usize,
+    let row = e.columns as usize;
+    let n = chroma_size(e.columns, e.pairs);
+    Planes {
+        y: Plane {
+            start: 0,
+            row: 4 * row,
+        },
+        cb: Plane {
+            start: 4 * n,
+            row: row,
+        },
+        cr: Plane {
+            start: 5 * n,
+            row: row,
+        },
     }
 }

@@ -18,7 +18,7 @@ use Rattle.plan.specs.declared.Header.{Header}
 use Rattle.plan.specs.Ranges.{bl-depth, el-depth}
 use Rattle.rules.specs.Rules.{extent, used, wrong-sample}
 use Rattle.picture.proofs.Rows.{rows-between}
-use Rattle.picture.proofs.Planes.{starts-le, some-planes}
+use Rattle.picture.proofs.Three.{starts-le, some-planes}
 
 -- row pairs that follow each other are one part of the run
 pub large-plane : (p : Plane) (first last limit : ℕ) (run : List ℕ) (r : ℕ) → InPlane p first last (length run) → 1 ≤ limit → r ≡ greatest (part (row-start p first) (row-start p last) run) → leb limit r ≡ some (in-rows p (between first last)) (at-least limit) run

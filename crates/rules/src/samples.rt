@@ -3,9 +3,7 @@ use crate::extent_of;
 use crate::is_used;
 use picture::Extent;
 use picture::Plane;
-use picture::cb_plane;
-use picture::cr_plane;
-use picture::luma_plane;
+use picture::planes_of;
 use plan::Header;
 use spans::largest;
 ghost use mathlib.Core.Path.{_≡_};
@@ -31,9 +29,10 @@ fn large_in_picture(e: Extent, first: usize, last: usize, limit: u16, run: &[u16
     requires { ⌜ InPicture e first last (length (now run)) × (1 ≤ limit) ⌝ }
     ensures { λ r. ⌜ r ≡ some (in-pairs e first last) (at-least limit) (now (run .entry)) ⌝ }
 {
-    let y = large_in_plane(luma_plane(e), first, last, limit, run);
-    let cb = large_in_plane(cb_plane(e), first, last, limit, run);
-    let cr = large_in_plane(cr_plane(e), first, last, limit, run);
+    let p = planes_of(e);
+    let y = large_in_plane(p.y, first, last, limit, run);
+    let cb = large_in_plane(p.cb, first, last, limit, run);
+    let cr = large_in_plane(p.cr, first, last, limit, run);
     (y | cb) | cr
 }
 

@@ -28,7 +28,7 @@ RowsIn p r run = InPlane p (r .first) (r .last) (length run)
 -- and their samples are below a limit
 pub record CodesIn (p : Plane) (r : Rows) (limit : ℕ) (run : List ℕ) : Type 0 where
   pub rows : RowsIn p r run
-  pub code : (i : ℕ) → i < length run → in-rows p (between (r .first) (r .last)) i ≡ true → at run i < limit
+  pub code : (i : ℕ) → in-rows p (between (r .first) (r .last)) i ≡ true → at run i < limit
 
 -- the same in a picture, of every plane
 pub record CodesInPicture (e : Extent) (r : Rows) (limit : ℕ) (run : List ℕ) : Type 0 where

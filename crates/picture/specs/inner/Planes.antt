@@ -5,6 +5,7 @@ use Prim.Native.Nat.{ℕ, _+_, _-_, _*_, _/_, _≤_}
 use lib.Dec.{leb}
 use Rattle.picture.specs.declared.Extent.{Extent}
 use Rattle.picture.specs.declared.Plane.{Plane}
+use Rattle.picture.specs.declared.Planes.{Planes}
 use Rattle.picture.specs.Picture.{chroma-size, picture-size}
 
 -- with n samples in a chroma plane: luma has 4n samples, Cb starts at 4n and Cr at 5n
@@ -16,6 +17,9 @@ cb-plane e = record { start = 4 * chroma-size e; row = e .columns }
 
 abbrev pub cr-plane : Extent → Plane
 cr-plane e = record { start = 5 * chroma-size e; row = e .columns }
+
+abbrev pub planes : Extent → Planes
+planes e = record { y = luma-plane e; cb = cb-plane e; cr = cr-plane e }
 
 -- where row pair k begins, which is where row pair k - 1 ends
 abbrev pub row-start : Plane → ℕ → ℕ

@@ -2,47 +2,49 @@
 use mathlib.Core.Path.{_≡_, ap, subst, sym, _∙_}
 use mathlib.Core.Bool.{Bool}
 use borrow.Author.Needs.{needs}
-use Prim.Native.Nat.{ℕ}
 use lib.ListN.{length}
 use Rattle.runs.specs.Runs.{between, some, at-least}
 use Rattle.picture.specs.declared.Plane.{Plane}
-use Rattle.picture.specs.inner.Planes.{in-rows, InPlane}
-use Rattle.picture.proofs.Planes.{in-luma-plane, in-cb-plane, in-cr-plane}
+use Rattle.picture.specs.declared.Planes.{Planes}
+use Rattle.picture.specs.inner.Planes.{planes, in-rows, InPlane}
+use Rattle.picture.proofs.Three.{in-luma-plane, in-cb-plane, in-cr-plane}
 use Rattle.rules.proofs.Large.{large-picture}
 use Rattle.rules.proofs.samples.large_in_picture.Statement.{statement}
 use Rattle.rules.proofs.samples.large_in_picture.Tie as tie
 
-module _ (s : tie.Start) where
-  -- a plane that a call gave, in place of the one that it is
-  given : (p q : Plane) → p ≡ q → InPlane q (s .args .first) (s .args .last) (length (s .args .run .now)) → InPlane p (s .args .first) (s .args .last) (length (s .args .run .now))
-  given p q e = subst (λ (x : Plane). InPlane x (s .args .first) (s .args .last) (length (s .args .run .now))) (sym e)
+abbrev start : tie.After-planes-of → tie.Start
+start c = search needs
 
-  found : (p q : Plane) (r : Bool) → p ≡ q → r ≡ some (in-rows p (between (s .args .first) (s .args .last))) (at-least (s .args .limit)) (s .args .run .now) → r ≡ some (in-rows q (between (s .args .first) (s .args .last))) (at-least (s .args .limit)) (s .args .run .now)
-  found p q r e h = h ∙ ap (λ (x : Plane). some (in-rows x (between (s .args .first) (s .args .last))) (at-least (s .args .limit)) (s .args .run .now)) e
+module _ (c : tie.After-planes-of) (of : Planes → Plane) where
+  abbrev is-it : of (c .planes-of .result) ≡ of (planes (start c .args .e))
+  is-it = ap of (c .planes-of .ensures)
+
+  -- a plane that the call gave, in place of the one that it is
+  given : InPlane (of (planes (start c .args .e))) (start c .args .first) (start c .args .last) (length (start c .args .run .now)) → InPlane (of (c .planes-of .result)) (start c .args .first) (start c .args .last) (length (start c .args .run .now))
+  given = subst (λ (x : Plane). InPlane x (start c .args .first) (start c .args .last) (length (start c .args .run .now))) (sym is-it)
+
+  found : (r : Bool) → r ≡ some (in-rows (of (c .planes-of .result)) (between (start c .args .first) (start c .args .last))) (at-least (start c .args .limit)) (start c .args .run .now) → r ≡ some (in-rows (of (planes (start c .args .e))) (between (start c .args .first) (start c .args .last))) (at-least (start c .args .limit)) (start c .args .run .now)
+  found r h = h ∙ ap (λ (x : Plane). some (in-rows x (between (start c .args .first) (start c .args .last))) (at-least (start c .args .limit)) (start c .args .run .now)) is-it
 
 luma : tie.Need-large-in-plane-requires
-luma c κs = let s : tie.Start = search needs in (given s _ _ (c .luma-plane .ensures) (in-luma-plane (s .args .e) _ _ _ (s .pre .0)), s .pre .1)
+luma c κs = let p : tie.After-planes-of = search needs in let s = start p in (given p (λ x. x .y) (in-luma-plane (s .args .e) _ _ _ (s .pre .0)), s .pre .1)
 
 cb : tie.Need-large-in-plane-requires-2
-cb c κs = let s : tie.Start = search needs in (given s _ _ (c .cb-plane .ensures) (in-cb-plane (s .args .e) _ _ _ (s .pre .0)), s .pre .1)
+cb c κs = let p : tie.After-planes-of = search needs in let s = start p in (given p (λ x. x .cb) (in-cb-plane (s .args .e) _ _ _ (s .pre .0)), s .pre .1)
 
 cr : tie.Need-large-in-plane-requires-3
-cr c κs = let s : tie.Start = search needs in (given s _ _ (c .cr-plane .ensures) (in-cr-plane (s .args .e) _ _ _ (s .pre .0)), s .pre .1)
+cr c κs = let p : tie.After-planes-of = search needs in let s = start p in (given p (λ x. x .cr) (in-cr-plane (s .args .e) _ _ _ (s .pre .0)), s .pre .1)
 
 returns : tie.Need-returns
 returns c =
-    let s : tie.Start = search needs in
-    let p : tie.After-luma-plane = search needs in
-    let q : tie.After-cb-plane = search needs in
-    let r : tie.After-cr-plane = search needs in
+    let p : tie.After-planes-of = search needs in
+    let s = start p in
     let y : tie.After-large-in-plane = search needs in
     let b : tie.After-large-in-plane2 = search needs in
     large-picture (s .args .e) (s .args .first) (s .args .last) (s .args .limit) _ _ _ _ (s .pre .0)
-    (found s _ _ _ (p .luma-plane .ensures) (y .large-in-plane .ensures))
-    (found s _ _ _ (q .cb-plane .ensures) (b .large-in-plane2 .ensures))
-    (found s _ _ _ (r .cr-plane .ensures) (c .large-in-plane3 .ensures))
+    (found p (λ x. x .y) _ (y .large-in-plane .ensures))
+    (found p (λ x. x .cb) _ (b .large-in-plane2 .ensures))
+    (found p (λ x. x .cr) _ (c .large-in-plane3 .ensures))
 
 pub large-in-picture-spec : {M : Type 1} → statement M
-large-in-picture-spec =
-    tie.close
-    (tie.spec (λ c κs. search needs) luma (λ c κs. search needs) cb (λ c κs. search needs) cr returns)
+large-in-picture-spec = tie.close (tie.spec (λ c κs. search needs) luma cb cr returns)

@@ -3,7 +3,7 @@ use Prim.Native.Nat.{_≤_}
 use native.Mathlib.Omega.{arith}
 use borrow.Author.Needs.{needs}
 use Rattle.picture.specs.inner.Planes.{row-start}
-use Rattle.picture.proofs.Planes.{starts-le}
+use Rattle.picture.proofs.Three.{starts-le}
 use Rattle.rules.proofs.Large.{large-plane}
 use Rattle.rules.proofs.samples.large_in_plane.Statement.{statement}
 use Rattle.rules.proofs.samples.large_in_plane.Tie as tie

@@ -1,12 +1,12 @@
 -- The row pairs of a picture are those of its three planes. Assumes nothing.
 use mathlib.Core.Path.{_≡_, refl, sym, ap, ap₂, _∙_}
-use mathlib.Core.Bool.{Bool, true, false, _&&_, _||_, or-false, or-true, true≢false}
+use mathlib.Core.Bool.{Bool, true, false, cond, _&&_, _||_, or-false, or-true, true≢false}
 use mathlib.Core.List.{List}
 use mathlib.Core.Logic.{⊎-elim}
 use Prim.Native.Nat.{ℕ, _+_, _-_, _*_, _/_, _≤_, _<_}
 use native.Mathlib.Nat.{div-lt-iff-lt-mul, div-div-eq-div-mul, mul-comm, mul-assoc, mul-left-comm, mul-le-mul-left}
 use native.Mathlib.Omega.{arith}
-use lib.Dec.{leb}
+use lib.Dec.{leb, ltb}
 use lib.ListN.{length}
 use borrow.Author.Tests.{lt-ltb, le-ltb, le-leb, lt-leb, leb-true}
 use Rattle.runs.specs.Runs.{painted, some}
@@ -21,6 +21,15 @@ use Rattle.picture.specs.inner.Planes.{luma-plane, cb-plane, cr-plane, r
 -- luma has four times the samples of a chroma plane
 pub luma-four : (e : Extent) → luma-size e ≡ 4 * chroma-size e
 luma-four e = mul-assoc 2 (e .columns) (2 * e .pairs) ∙ ap (λ (n : ℕ). 2 * n) (mul-left-comm (e .columns) 2 (e .pairs)) ∙ sym (mul-assoc 2 2 (e .columns * e .pairs))
+
+pub of-plane-ap : {A B : Type 0} (f : A → B) (e : Extent) (i : ℕ) (y cb cr : A) → f (of-plane e i y cb cr) ≡ of-plane e i (f y) (f cb) (f cr)
+unfolding of-plane
+of-plane-ap f e i y cb cr = go (ltb i (luma-size e)) (ltb i (luma-size e + chroma-size e))
+  where
+    go : (u v : Bool) → f (cond u y (cond v cb cr)) ≡ cond u (f y) (cond v (f cb) (f cr))
+    go true v = refl
+    go false true = refl
+    go false false = refl
 
 -- row pairs of a picture are row pairs of each of its planes
 module _ (e : Extent) (first last n : ℕ) (g : InPicture e first last n) where

@@ -1,0 +1,85 @@
+-- `compose::compose_row_pairs` meets its contract: a refusal writes nothing, and acceptance gives all that the planes ask. Assumes nothing.
+use mathlib.Core.Path.{_≡_, sym, _∙_}
+use mathlib.Core.Bool.{true, false}
+use lib.ListN.{length}
+use native.Mathlib.Omega.{arith}
+use borrow.Author.Needs.{needs}
+use Rattle.plan.proofs.Facts.{header-facts}
+use Rattle.rules.specs.Rules.{Given, given, refusal}
+use Rattle.compose.proofs.Meaning.{plain-composed, enhanced-composed}
+use Rattle.compose.proofs.Accepting.{refused, written, passed, in-output, in-base, in-enhancement}
+use Rattle.compose.proofs.compose_row_pairs.Statement.{statement}
+use Rattle.compose.proofs.compose_row_pairs.Tie as tie
+
+abbrev start : tie.After-refusal-of → tie.Start
+start c = search needs
+
+abbrev numbered : tie.Else1 → tie.After-refusal-of
+numbered e = search needs
+
+abbrev asked : tie.Start → Given
+asked s = given (s .args .plan) (s .args .first) (s .args .count) (s .args .base .now) (s .args .enhancement .now)
+
+none : (e : tie.Else1) → (let s = start (numbered e) in 0 ≡ refusal (asked s) (length (s .args .output .now)))
+none e = sym (e .if1 .left) ∙ numbered e .refusal-of .ensures
+
+returns : tie.Need-returns
+returns c =
+    let n : tie.After-refusal-of = search needs in
+    let s = start n in
+    refused (asked s) (s .args .output .now) _ (n .refusal-of .ensures) (c .if1 .taken)
+
+add-is-used : tie.Need-add-is-used
+add-is-used c =
+    let e : tie.Else1 = search needs in
+    let p = passed _ _ (none e) in
+    omega (arith, p .sizes .pairs, header-facts _ (p .fits) .few-pairs)
+
+enhanced-planes-requires : tie.Need-enhanced-planes-requires
+enhanced-planes-requires c κs =
+    let e : tie.Else1 = search needs in
+    let u : tie.After-is-used = search needs in
+    let t : tie.Then2 = search needs in
+    let z = none e in
+    (passed _ _ z .fits, (in-base _ _ z, (in-enhancement _ _ z (sym (u .is-used .ensures) ∙ t .if2 .taken), in-output _ _ z)))
+
+returns-2 : tie.Need-returns-2
+returns-2 c =
+    let p : tie.After-enhanced-planes = search needs in
+    let e : tie.Else1 = search needs in
+    let u : tie.After-is-used = search needs in
+    let t : tie.Then2 = search needs in
+    let s = start (numbered e) in
+    written (asked s) (s .args .output .now) _ _ (none e) (p .enhanced-planes .ensures)
+    (λ i. enhanced-composed (s .args .plan) (s .args .base .now) (s .args .enhancement .now) i (sym (u .is-used .ensures) ∙ t .if2 .taken))
+
+plain-planes-requires : tie.Need-plain-planes-requires
+plain-planes-requires c κs =
+    let e : tie.Else1 = search needs in
+    let z = none e in
+    (passed _ _ z .fits, (in-base _ _ z, in-output _ _ z))
+
+returns-3 : tie.Need-returns-3
+returns-3 c =
+    let p : tie.After-plain-planes = search needs in
+    let e : tie.Else1 = search needs in
+    let u : tie.After-is-used = search needs in
+    let l : tie.Else2 = search needs in
+    let s = start (numbered e) in
+    written (asked s) (s .args .output .now) _ _ (none e) (p .plain-planes .ensures)
+    (λ i. plain-composed (s .args .plan) (s .args .base .now) (s .args .enhancement .now) i (sym (u .is-used .ensures) ∙ l .if2 .left))
+
+pub compose-row-pairs-spec : {M : Type 1} → statement M
+compose-row-pairs-spec =
+    tie.close
+    (tie.spec
+    (λ c κs. search needs)
+    returns
+    add-is-used
+    (λ c κs. search needs)
+    enhanced-planes-requires
+    (λ c. search needs)
+    returns-2
+    plain-planes-requires
+    (λ c. search needs)
+    returns-3)
