@@ -7,8 +7,8 @@ use lib.ListN.{length}
 use borrow.Author.Tests.{ne-eqb}
 use Rattle.runs.specs.Runs.{painted}
 use Rattle.runs.proofs.Painting.{painted-cong}
-use Rattle.refusals.specs.Outcomes.{Outcome, granted, denied, outcome}
-use Rattle.refusals.proofs.Laws.{outcome-denied}
+use Rattle.refusals.specs.Outcomes.{Outcome, granted, denied}
+use Rattle.refusals.proofs.Laws.{outcome-granted, outcome-denied}
 use Rattle.picture.specs.Picture.{in-pairs}
 use Rattle.picture.specs.inner.Planes.{InPicture}
 use Rattle.plan.specs.Ranges.{bl-depth, el-depth}
@@ -24,16 +24,16 @@ Ends g output o after = (o ≡ answer g (length output)) × (after ≡ output-af
 
 pub refused : (g : Given) (output : List ℕ) (k : ℕ) → k ≡ refusal g (length output) → (k ≡ 0 → ⊥) → Ends g output (denied k) output
 unfolding output-after
-refused g output k e n = (sym (ap (λ (x : ℕ). outcome x []) (sym e) ∙ outcome-denied k [] n), rw (← e, ne-eqb k 0 n))
+refused g output k e n = (outcome-denied _ k _ (sym e) n, rw (← e, ne-eqb k 0 n))
 
 -- the row pairs of the call
 abbrev pub rows-of : Given → Rows
 rows-of g = record { first = g .first; last = g .first + g .count }
 
 pub written : (g : Given) (output after : List ℕ) (value : ℕ → ℕ) → 0 ≡ refusal g (length output) → after ≡ painted (in-pairs (extent (g .plan .header)) (g .first) (g .first + g .count)) value output → ((i : ℕ) → value i ≡ composed-at (g .plan) (g .base) (g .enhancement) i) → Ends g output (granted []) after
-unfolding output-after names outcome
+unfolding output-after names
 written g output after value e h same =
-    (ap (λ (x : ℕ). outcome x []) e, rw (← e) (h ∙ painted-cong _ _ _ _ output (λ i b. refl) (λ i b s. same i)))
+    (outcome-granted _ _ (sym e), rw (← e) (h ∙ painted-cong _ _ _ _ output (λ i b. refl) (λ i b s. same i)))
 
 -- ---- what acceptance gives to whoever composes
 module _ (g : Given) (n : ℕ) (e : 0 ≡ refusal g n) where

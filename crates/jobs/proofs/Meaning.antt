@@ -8,8 +8,8 @@ use lib.Dec.{eqb}
 use lib.ListN.{length}
 use borrow.Author.Tests.{eq-eqb, ne-eqb}
 use Rattle.runs.specs.Runs.{painted, between, tally}
-use Rattle.refusals.specs.Outcomes.{Outcome, granted, denied, outcome}
-use Rattle.refusals.proofs.Laws.{outcome-denied}
+use Rattle.refusals.specs.Outcomes.{Outcome, granted, denied}
+use Rattle.refusals.proofs.Laws.{outcome-granted, outcome-denied}
 use Rattle.picture.specs.Picture.{pair-at}
 use Rattle.plan.specs.Rule7.{fitting}
 use Rattle.rules.specs.Rules.{extent, names, rules, refusal}
@@ -26,11 +26,11 @@ module _ (j : Job) (output marks : List ℕ) where
 
   refused : (k : ℕ) → number ≡ k → (k ≡ 0 → ⊥) → Ends j output marks (denied k) output marks
   unfolding accepted output-after marks-after job-answer
-  refused k e n = (sym (ap (λ (x : ℕ). outcome x _) e ∙ outcome-denied k _ n), (rw (e, ne-eqb k 0 n), rw (e, ne-eqb k 0 n)))
+  refused k e n = (outcome-denied _ k _ e n, (rw (e, ne-eqb k 0 n), rw (e, ne-eqb k 0 n)))
 
   finished : number ≡ 0 → Ends j output marks (granted (tally is-waiting (painted (names (j .work)) done marks) ∷ [])) (painted (λ i. composing.composes (j .work) (pair-at (extent (j .work .plan .header)) i)) (sample j) output) (painted (names (j .work)) done marks)
-  unfolding accepted output-after marks-after job-answer outcome
-  finished e = (rw e, (rw e, rw e))
+  unfolding accepted output-after marks-after job-answer
+  finished e = (rw e (outcome-granted 0 _ refl), (rw e, rw e))
 
   -- a rule after 7 is met
   seven-first : (fits : Bool) (x k : ℕ) → number ≡ cond (not fits) 7 (suc x) → k ≡ cond fits (suc x) 7 → Ends j output marks (denied k) output marks

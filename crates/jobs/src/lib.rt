@@ -1,15 +1,15 @@
 // A picture is opened, and its row pairs are composed by jobs that may come in any order and any number of times.
-mod marks;
-mod refusals;
+mod marks; // a byte for each row pair
+mod early; // the rules before any picture is looked at
 
 use compose::compose_row_pairs;
+use early::is_marked;
+use early::opening_number_of;
+use early::seven_or;
 use marks::clear;
 use marks::mark;
 use marks::waiting;
 use plan::Plan;
-use refusals::is_marked;
-use refusals::opening_number_of;
-use refusals::seven_or;
 ghost use mathlib.Core.Path.{_≡_};
 ghost use lib.ListN.{length};
 ghost use Rattle.jobs.specs.Jobs.{job, says, job-answer, output-after, marks-after, complete};

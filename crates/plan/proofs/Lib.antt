@@ -6,4 +6,3 @@ pub mod Anywhere
 pub mod Coefficients
 pub mod Sizes
 pub mod Facts
-pub mod Determined

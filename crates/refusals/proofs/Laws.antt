@@ -1,5 +1,5 @@
 -- Lists of rules: what it says that none is met, and one list before another. Assumes nothing.
-use mathlib.Core.Path.{_≡_, refl, sym, _∙_}
+use mathlib.Core.Path.{_≡_, refl, sym, ap, _∙_}
 use mathlib.Core.Bool.{Bool, true, false, cond, not, _&&_, _||_, true≢false}
 use mathlib.Core.List.{List, [], _∷_, _++_}
 use Prim.Native.Nat.{ℕ, zero, suc}
@@ -49,10 +49,15 @@ where-on true b h e = h
 where-on false b h e = absurd (true≢false (sym e))
 
 -- ---- outcomes
-pub outcome-denied : (k : ℕ) (values : List ℕ) → (k ≡ 0 → ⊥) → outcome k values ≡ denied k
+pub outcome-granted : (x : ℕ) (values : List ℕ) → x ≡ 0 → granted values ≡ outcome x values
 unfolding outcome
-outcome-denied zero values n = absurd (n refl)
-outcome-denied (suc k) values n = refl
+outcome-granted zero values e = refl
+outcome-granted (suc x) values e = absurd (omega arith)
+
+pub outcome-denied : (x k : ℕ) (values : List ℕ) → x ≡ k → (k ≡ 0 → ⊥) → denied k ≡ outcome x values
+unfolding outcome
+outcome-denied zero k values e n = absurd (n (sym e))
+outcome-denied (suc x) k values e n = ap denied (sym e)
 
 pub outcome-number : (k : ℕ) (values : List ℕ) → outcome k values .number ≡ k
 unfolding outcome

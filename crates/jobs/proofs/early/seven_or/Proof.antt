@@ -1,7 +1,7 @@
 use mathlib.Core.Path.{sym, _∙_}
 use borrow.Author.Needs.{needs}
-use Rattle.jobs.proofs.refusals.seven_or.Statement.{statement}
-use Rattle.jobs.proofs.refusals.seven_or.Tie as tie
+use Rattle.jobs.proofs.early.seven_or.Statement.{statement}
+use Rattle.jobs.proofs.early.seven_or.Tie as tie
 
 passes-requires : tie.Need-passes-requires
 passes-requires c κs = search needs

@@ -2,8 +2,8 @@ use mathlib.Core.Path.{sym, _∙_}
 use borrow.Author.Needs.{needs}
 use borrow.Author.Tests.{not-true, not-false}
 use Rattle.jobs.specs.Opening.{opening-refusal}
-use Rattle.jobs.proofs.refusals.opening_number_of.Statement.{statement}
-use Rattle.jobs.proofs.refusals.opening_number_of.Tie as tie
+use Rattle.jobs.proofs.early.opening_number_of.Statement.{statement}
+use Rattle.jobs.proofs.early.opening_number_of.Tie as tie
 
 passes-requires : tie.Need-passes-requires
 passes-requires c κs = search needs
