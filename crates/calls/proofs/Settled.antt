@@ -1,0 +1,79 @@
+-- Two outcomes that a promise allows are equal: each promise is an equation, and what an answer says determines it. Assumes nothing.
+use mathlib.Core.Path.{_≡_, refl, sym, ap, _∙_}
+use mathlib.Core.Bool.{Bool, true, false, true≢false}
+use mathlib.Core.List.{List}
+use Prim.Native.Nat.{ℕ}
+use lib.ListN.{getD}
+use native.Mathlib.Omega.{arith}
+use Rattle.refusals.specs.Outcomes.{Outcome}
+use Rattle.compose.specs.declared.Composed.{Composed}
+use Rattle.compose.specs.declared.Composed.the-variants as composed
+use Rattle.compose.specs.Composing as composing
+use Rattle.jobs.specs.declared.Opened.{Opened}
+use Rattle.jobs.specs.declared.Opened.the-variants as opened
+use Rattle.jobs.specs.Opening.{opened-says}
+use Rattle.jobs.specs.declared.Answer.{Answer}
+use Rattle.jobs.specs.declared.Answer.the-variants as answered
+use Rattle.jobs.specs.Jobs as jobs
+use Rattle.calls.specs.Settled.{Settled}
+
+same-number : {o p : Outcome} → o ≡ p → o .number ≡ p .number
+same-number e = ap (λ (x : Outcome). x .number) e
+
+same-value : {o p : Outcome} → o ≡ p → getD (o .values) 0 0 ≡ getD (p .values) 0 0
+same-value e = ap (λ (x : Outcome). getD (x .values) 0 0) e
+
+same-case : {o p : Outcome} → o ≡ p → o .refused ≡ p .refused
+same-case e = ap (λ (x : Outcome). x .refused) e
+
+one-composed : (r r' : Composed) → composing.says r ≡ composing.says r' → r ≡ r'
+one-composed composed.Written composed.Written e = refl
+one-composed composed.Written (composed.Refused k) e = absurd (true≢false (sym (same-case e)))
+one-composed (composed.Refused k) composed.Written e = absurd (true≢false (same-case e))
+one-composed (composed.Refused k) (composed.Refused l) e = ap composed.Refused (same-number e)
+
+one-opened : (r r' : Opened) → opened-says r ≡ opened-says r' → r ≡ r'
+one-opened (opened.Open t) (opened.Open u) e = ap opened.Open (same-value e)
+one-opened (opened.Open t) (opened.Refused k) e = absurd (true≢false (sym (same-case e)))
+one-opened (opened.Refused k) (opened.Open t) e = absurd (true≢false (same-case e))
+one-opened (opened.Refused k) (opened.Refused l) e = ap opened.Refused (same-number e)
+
+one-job : (r r' : Answer) → jobs.says r ≡ jobs.says r' → r ≡ r'
+one-job (answered.Done n) (answered.Done m) e = ap answered.Done (same-value e)
+one-job (answered.Done n) (answered.Refused k) e = absurd (true≢false (sym (same-case e)))
+one-job (answered.Refused k) (answered.Done n) e = absurd (true≢false (same-case e))
+one-job (answered.Refused k) (answered.Refused l) e = ap answered.Refused (same-number e)
+
+pub settled : Settled
+settled =
+    record {
+      passes = λ κs a r r' s s' p q. p ∙ sym q;
+      is-usable = λ κs a r r' s s' p q. p ∙ sym q;
+      header-fits = λ κs a r r' s s' p q. p ∙ sym q;
+      empty = λ κs a r r' s s' p q. p .0 ∙ sym (q .0);
+      read = λ κs a r r' s s' p q. p .0 ∙ sym (q .0);
+      picture-size = λ κs a r r' s s' p q. p ∙ sym q;
+      planes-of = λ κs a r r' s s' p q. p ∙ sym q;
+      extent-of = λ κs a r r' s s' p q. p ∙ sym q;
+      is-used = λ κs a r r' s s' p q. p ∙ sym q;
+      refusal-of = λ κs a r r' s s' p q. p ∙ sym q;
+      largest = λ κs a r r' s s' p q. p ∙ sym q;
+      looked-up-output = λ κs a r r' s s' p q. p ∙ sym (q);
+      added-up-output = λ κs a r r' s s' p q. p ∙ sym (q);
+      mapped-table = λ κs a r r' s s' p q. p ∙ sym q;
+      residual-table = λ κs a r r' s s' p q. p ∙ sym q;
+      finished-table = λ κs a r r' s s' p q. p ∙ sym q;
+      cut-table = λ κs a r r' s s' p q. p ∙ sym q;
+      run-length = λ κs a r r' s s' p q. p ∙ sym q;
+      composed-number = λ κs a r r' s s' p q. p ∙ sym q;
+      compose-row-pairs = λ κs a r r' s s' p q. one-composed r r' (p .0 ∙ sym (q .0));
+      composed-output = λ κs a r r' s s' p q. p .1 ∙ sym (q .1);
+      open-picture = λ κs a r r' s s' p q. one-opened r r' (p .0 ∙ sym (q .0));
+      opened-marks = λ κs a r r' s s' p q. p .1 ∙ sym (q .1);
+      opened-number = λ κs a r r' s s' p q. p ∙ sym q;
+      compose-job = λ κs a r r' s s' p q. one-job r r' (p .0 ∙ sym (q .0));
+      job-output = λ κs a r r' s s' p q. p .1 .0 ∙ sym (q .1 .0);
+      job-marks = λ κs a r r' s s' p q. p .1 .1 ∙ sym (q .1 .1);
+      job-number = λ κs a r r' s s' p q. p ∙ sym q;
+      is-complete = λ κs a r r' s s' p q. p ∙ sym q;
+    }

@@ -1,0 +1,74 @@
+-- Calls of `open_picture` and `compose_job` that have ended as their promises say: what they were handed, what they answered,
+-- and what they left in the memory that they were lent. The places of the parameters are named here, once.
+use mathlib.Core.List.{List}
+use Prim.Native.Nat.{ℕ}
+use contract.Lifetimes.{Lfts}
+use borrow.Fn.Kinds.{endedOf}
+use borrow.Fn.World.{ArgsD, ResD}
+use denote.Triple.Clauses.{AtExit}
+use denote.Ref.{now}
+use Rattle.refusals.specs.Outcomes.{Outcome}
+use Rattle.plan.specs.declared.Plan.{Plan}
+use Rattle.jobs.specs.Jobs.{Job, job, says}
+use Rattle.jobs.specs.Opening.{opened-says}
+use Rattle.jobs.proofs.open_picture as opening
+use Rattle.jobs.proofs.open_picture.Kinds as opening-kinds
+use Rattle.jobs.proofs.open_picture.Reads as opening-reads
+use Rattle.jobs.proofs.compose_job as composing
+use Rattle.jobs.proofs.compose_job.Kinds as composing-kinds
+use Rattle.jobs.proofs.compose_job.Reads as composing-reads
+
+-- open_picture(plan, ticket, marks)
+pub record OpenCall : Type 0 where
+  pub lifetimes : Lfts 1
+  pub handed : ArgsD opening.signature lifetimes
+  pub answered : ResD opening.signature lifetimes
+  pub left : AtExit (endedOf 1 opening-kinds.ps opening-kinds.r) lifetimes
+  pub kept : opening-reads.Post lifetimes handed answered left
+
+module _ (c : OpenCall) where
+  abbrev pub opening-plan : Plan
+  opening-plan = c .handed .0
+
+  abbrev pub opening-ticket : ℕ
+  opening-ticket = c .handed .1 .0
+
+  abbrev pub marks-before : List ℕ
+  marks-before = now (c .handed .1 .1 .0)
+
+  abbrev pub marks-opened : List ℕ
+  marks-opened = now (c .left .1 .1 .0)
+
+  abbrev pub opening-said : Outcome
+  opening-said = opened-says (c .answered)
+
+-- compose_job(plan, open_ticket, ticket, first, count, base, enhancement, output, marks)
+pub record JobCall : Type 0 where
+  pub lifetimes : Lfts 4
+  pub handed : ArgsD composing.signature lifetimes
+  pub answered : ResD composing.signature lifetimes
+  pub left : AtExit (endedOf 4 composing-kinds.ps composing-kinds.r) lifetimes
+  pub kept : composing-reads.Post lifetimes handed answered left
+
+module _ (c : JobCall) where
+  abbrev pub job-of : Job
+  job-of =
+      let tickets = c .handed .1 in
+      let rows = tickets .1 .1 in
+      let pictures = rows .1 .1 in
+      job (c .handed .0) (tickets .0) (tickets .1 .0) (rows .0) (rows .1 .0) (now (pictures .0)) (now (pictures .1 .0))
+
+  abbrev pub output-before : List ℕ
+  output-before = let pictures = c .handed .1 .1 .1 .1 .1 in now (pictures .1 .1 .0)
+
+  abbrev pub job-marks-before : List ℕ
+  job-marks-before = let pictures = c .handed .1 .1 .1 .1 .1 in now (pictures .1 .1 .1 .0)
+
+  abbrev pub output-left : List ℕ
+  output-left = let pictures = c .left .1 .1 .1 .1 .1 in now (pictures .1 .1 .0)
+
+  abbrev pub marks-left : List ℕ
+  marks-left = let pictures = c .left .1 .1 .1 .1 .1 in now (pictures .1 .1 .1 .0)
+
+  abbrev pub said : Outcome
+  said = says (c .answered)
