@@ -1,49 +1,53 @@
 -- The calls of a night leave what the jobs of the theorem leave. Assumes nothing.
-use mathlib.Core.Path.{_≡_, refl, sym, ap, ap₂, _∙_}
-use mathlib.Core.Bool.{Bool, true, false, cond}
-use mathlib.Core.List.{List, _∷_}
-use Prim.Native.Nat.{ℕ}
+use mathlib.Core.Path.{_≡_, refl, sym, ap, ap₂, subst, _∙_}
+use mathlib.Core.Bool.{Bool, true, false, true≢false}
+use mathlib.Core.List.{List, [], _∷_}
+use Prim.Native.Nat.{ℕ, zero, suc}
+use lib.Dec.{eqb}
 use lib.ListN.{length}
+use Rattle.refusals.specs.Outcomes.{Outcome, outcome}
 use Rattle.plan.specs.declared.Plan.{Plan}
-use Rattle.jobs.specs.Opening.{opening-accepted, opening-answer, opening-refusal}
-use Rattle.jobs.specs.Jobs.{Job, job-answer, complete}
-use Rattle.jobs.specs.declared.Opened.the-variants.{Open, Refused}
-use Rattle.jobs.specs.declared.Answer.{Answer}
-use Rattle.night.specs.Night.{Memory, step, run, opened}
-use Rattle.night.specs.Calls.{memory, job-of, before, afterwards, Calls, none, more, answers, plan-given, ticket-given, marks-given, marks-opened, AnyChainOfCalls}
+use Rattle.jobs.specs.Opening.{opening-accepted, opening-answer, opening-refusal, handed-back}
+use Rattle.jobs.specs.Jobs.{Job, job-answer}
+use Rattle.calls.specs.Calls.{OpenCall, opening-plan, opening-ticket, marks-before, marks-opened, opening-said}
+use Rattle.calls.specs.Calls.{JobCall, job-of, said}
+use Rattle.night.specs.Night.{Memory, step, run, opened, Leaves}
+use Rattle.night.specs.Calls.{memory, before, afterwards, Calls, none, more, answers, AnyChainOfCalls}
 use Rattle.night.proofs.Night.{standby-night}
 
-as-run : {m n : Memory} {js : List Job} {rs : List Answer} → Calls m js rs n → (n ≡ run js m) × (rs ≡ answers js m)
+as-run : {m n : Memory} {js : List Job} {os : List Outcome} → Calls m js os n → (n ≡ run js m) × (os ≡ answers js m)
 unfolding run answers
 as-run none = (refl, refl)
-as-run (more {js} κs a r s p c) =
-    let after : afterwards κs a s ≡ step (job-of κs a) (before κs a) = ap₂ memory (p .1 .0) (p .1 .1) in
-    (as-run c .0 ∙ ap (run js) after, ap₂ (λ (x : Answer) (xs : List Answer). x ∷ xs) (p .0) (as-run c .1 ∙ ap (answers js) after))
+as-run (more {js} c cs) =
+    let after : afterwards c ≡ step (job-of c) (before c) = ap₂ memory (c .kept .1 .0) (c .kept .1 .1) in
+    (as-run cs .0 ∙ ap (run js) after, ap₂ (λ (x : Outcome) (xs : List Outcome). x ∷ xs) (c .kept .0) (as-run cs .1 ∙ ap (answers js) after))
 
--- an opening that hands a ticket back was accepted, and it hands back the one that it was given
-opened-as : (p : Plan) (ticket n handed : ℕ) → opening-answer p ticket n ≡ Open handed → (opening-accepted p n ≡ true) × (handed ≡ ticket)
-unfolding opening-answer
-opened-as p ticket n handed h = go (opening-accepted p n) refl h
+-- an opening that is not refused was accepted, and hands back the ticket that it was given
+opened-as : (p : Plan) (ticket n : ℕ) → opening-answer p ticket n .refused ≡ false → (opening-accepted p n ≡ true) × (handed-back (opening-answer p ticket n) ≡ ticket)
+unfolding opening-answer opening-accepted outcome
+opened-as p ticket n h = go (opening-refusal p n) h
   where
-    go : (u : Bool) → opening-accepted p n ≡ u → cond u (Open ticket) (Refused (opening-refusal p n)) ≡ Open handed → (u ≡ true) × (handed ≡ ticket)
-    go true e q = (refl, cc)
-    go false e q = (cc, cc)
+    go : (k : ℕ) → outcome k (ticket ∷ []) .refused ≡ false → (eqb k 0 ≡ true) × (handed-back (outcome k (ticket ∷ [])) ≡ ticket)
+    go zero q = (refl, refl)
+    go (suc k) q = absurd (true≢false q)
+
+as-said : {o p : Outcome} {left : ℕ} → o ≡ p → Leaves o left → Leaves p left
+as-said {left = left} e l = subst (λ (x : Outcome). Leaves x left) e l
 
 pub any-chain-of-calls : AnyChainOfCalls
-any-chain-of-calls κs a r s post handed opens base enhancement output js rs m calls ks =
-    let p = plan-given κs a in
-    let marks = marks-given κs a in
-    let start : memory output (marks-opened κs a s) ≡ opened p output marks = ap (memory output) (post .1) in
+any-chain-of-calls o opens base enhancement output js os m calls ks =
+    let p = opening-plan o in
+    let marks = marks-before o in
+    let start : memory output (marks-opened o) ≡ opened p output marks = ap (memory output) (o .kept .1) in
     let memory-is : m ≡ run js (opened p output marks) = as-run calls .0 ∙ ap (run js) start in
-    let opening = opened-as p (ticket-given κs a) (length marks) handed (sym (post .0) ∙ opens) in
-    let finished = standby-night p base enhancement output marks js (opening .0) ks in (
-      opening .1,
+    let was-asked = opened-as p (opening-ticket o) (length marks) (ap (λ (x : Outcome). x .refused) (sym (o .kept .0)) ∙ opens) in
+    let finished = standby-night p base enhancement output marks js (was-asked .0) ks in (
+      ap handed-back (o .kept .0) ∙ was-asked .1,
       record {
         memory-is = memory-is;
         answers-are = as-run calls .1 ∙ ap (answers js) start;
         finished = finished;
-        next = λ κs' a' r' s' q e k h.
-            let is-done = q .0 ∙ ap (λ (x : Memory). job-answer (job-of κs' a') (x .output) (x .marks)) (e ∙ memory-is) ∙ finished .rows-left (job-of κs' a') k h .0 in
-            (is-done, ap complete is-done);
+        next = λ c e k h.
+            as-said (sym (c .kept .0 ∙ ap (λ (x : Memory). job-answer (job-of c) (x .output) (x .marks)) (e ∙ memory-is))) (finished .next (job-of c) k h);
       },
     )

@@ -9,30 +9,26 @@ use lib.ListN.{length, getD}
 use borrow.Author.Tests.{eqb-true}
 use Rattle.runs.specs.Runs.{painted, tally}
 use Rattle.runs.proofs.Painting.{length-painted, at-painted, painted-over, painted-none, painted-cong}
+use Rattle.refusals.specs.Refusals.{rule, first-met}
+use Rattle.refusals.specs.Outcomes.{Outcome, granted, outcome}
+use Rattle.refusals.proofs.Laws.{none-met, not-off, outcome-granted}
+use Rattle.picture.specs.Picture.{pair-at}
 use Rattle.plan.specs.declared.Plan.{Plan}
 use Rattle.plan.specs.Rule7.{fitting}
-use Rattle.plan.specs.Refusals.{rule, first-met}
-use Rattle.compose.specs.Picture.{pair-at}
+use Rattle.rules.specs.Rules.{extent, names}
 use Rattle.compose.specs.Composing.{composed-at}
 use Rattle.jobs.specs.Opening.{every-pair, waiting, opening-refusal, opening-accepted, opening-marks}
-use Rattle.jobs.specs.Jobs.{Job, accepted, names, sample, done, is-waiting, output-after, marks-after, job-answer, complete}
-use Rattle.jobs.specs.declared.Answer.the-variants.{Done}
+use Rattle.jobs.specs.Jobs.{Job, job-refusal, accepted, sample, done, is-waiting, output-after, marks-after, job-answer, complete}
 use Rattle.jobs.proofs.Samples.{same-sample}
-use Rattle.night.specs.Night.{Memory, step, run, opened, named, count-below, rows-left-after, Keeps, AllKeep, none, more, Sent, here, later, StandbyNight}
+use Rattle.night.specs.Night.{Memory, step, run, opened, named, count-below, rows-left-after, Keeps, AllKeep, none, more, Sent, here, later, Leaves, StandbyNight}
 use Rattle.night.proofs.Counting.{count-cong, left-waiting}
 
 -- an accepted opening found a mark for each row pair, and cleared them all
-marked : (fits : Bool) (n k : ℕ) → first-met (rule 7 (not fits) ∷ rule 9 (not (eqb n k)) ∷ []) ≡ 0 → n ≡ k
-marked fits n k h = go fits (eqb n k) refl h
-  where
-    go : (f b : Bool) → eqb n k ≡ b → first-met (rule 7 (not f) ∷ rule 9 (not b) ∷ []) ≡ 0 → n ≡ k
-    go false b e q = absurd (omega arith)
-    go true false e q = absurd (omega arith)
-    go true true e q = eqb-true n k e
-
 pub opening-marked : (p : Plan) (n : ℕ) → opening-accepted p n ≡ true → n ≡ p .header .pairs
 unfolding opening-accepted opening-refusal
-opening-marked p n h = marked (fitting p) n (p .header .pairs) (eqb-true _ 0 h)
+opening-marked p n h =
+    let u = none-met (rule 7 (not (fitting p)) ∷ rule 9 (not (eqb n (p .header .pairs))) ∷ []) refl (eqb-true _ 0 h) in
+    eqb-true n _ (not-off _ (u .1 .0))
 
 cleared : (p : Plan) (marks : List ℕ) → opening-accepted p (length marks) ≡ true → opening-marks p marks ≡ painted every-pair waiting marks
 unfolding opening-marks
@@ -40,21 +36,21 @@ cleared p marks h = rw h
 
 module _ (p : Plan) (base enhancement : List ℕ) (a b : ℕ) where
   -- ---- one job
-  output-step : (j : Job) (m : Memory) → Keeps p base enhancement a b j → length (m .output) ≡ a → length (m .marks) ≡ b → step j m .output ≡ painted (λ i. accepted j a b && names j (pair-at (p .header) i)) (composed-at p base enhancement) (m .output)
+  output-step : (j : Job) (m : Memory) → Keeps p base enhancement a b j → length (m .output) ≡ a → length (m .marks) ≡ b → step j m .output ≡ painted (λ i. accepted j a b && names (j .work) (pair-at (extent (p .header)) i)) (composed-at p base enhancement) (m .output)
   unfolding output-after
   output-step j m k e f = rw (e, f) (go (accepted j a b) refl)
     where
-      go : (u : Bool) → accepted j a b ≡ u → cond u (painted (λ i. names j (pair-at (j .plan .header) i)) (sample j) (m .output)) (m .output) ≡ painted (λ i. u && names j (pair-at (p .header) i)) (composed-at p base enhancement) (m .output)
+      go : (u : Bool) → accepted j a b ≡ u → cond u (painted (λ i. names (j .work) (pair-at (extent (j .work .plan .header)) i)) (sample j) (m .output)) (m .output) ≡ painted (λ i. u && names (j .work) (pair-at (extent (p .header)) i)) (composed-at p base enhancement) (m .output)
       go true h =
-          ap₂ (λ (q : Plan) (s : List ℕ). painted (λ i. names j (pair-at (q .header) i)) (composed-at q s (j .enhancement)) (m .output)) (k .same-plan h) (k .same-base h)
-          ∙ painted-cong _ _ _ _ (m .output) (λ i l. refl) (λ i l t. same-sample p base (j .enhancement) enhancement i (k .same-enhancement h))
+          ap₂ (λ (q : Plan) (s : List ℕ). painted (λ i. names (j .work) (pair-at (extent (q .header)) i)) (composed-at q s (j .work .enhancement)) (m .output)) (k .same-plan h) (k .same-base h)
+          ∙ painted-cong _ _ _ _ (m .output) (λ i l. refl) (λ i l t. same-sample p base (j .work .enhancement) enhancement i (k .same-enhancement h))
       go false h = sym (painted-none _ _ _ (λ i l. refl))
 
-  marks-step : (j : Job) (m : Memory) → length (m .output) ≡ a → length (m .marks) ≡ b → step j m .marks ≡ painted (λ k. accepted j a b && names j k) done (m .marks)
+  marks-step : (j : Job) (m : Memory) → length (m .output) ≡ a → length (m .marks) ≡ b → step j m .marks ≡ painted (λ k. accepted j a b && names (j .work) k) done (m .marks)
   unfolding marks-after
   marks-step j m e f = rw (e, f) (go (accepted j a b))
     where
-      go : (u : Bool) → cond u (painted (names j) done (m .marks)) (m .marks) ≡ painted (λ k. u && names j k) done (m .marks)
+      go : (u : Bool) → cond u (painted (names (j .work)) done (m .marks)) (m .marks) ≡ painted (λ k. u && names (j .work) k) done (m .marks)
       go true = refl
       go false = sym (painted-none _ _ _ (λ i l. refl))
 
@@ -65,7 +61,7 @@ module _ (p : Plan) (base enhancement : List ℕ) (a b : ℕ) where
   marks-length j m e f = ap length (marks-step j m e f) ∙ length-painted _ _ _ ∙ f
 
   -- ---- any number of jobs: painting over a painting selects what either does
-  run-output : (js : List Job) (m : Memory) → AllKeep p base enhancement a b js → length (m .output) ≡ a → length (m .marks) ≡ b → run js m .output ≡ painted (λ i. named a b js (pair-at (p .header) i)) (composed-at p base enhancement) (m .output)
+  run-output : (js : List Job) (m : Memory) → AllKeep p base enhancement a b js → length (m .output) ≡ a → length (m .marks) ≡ b → run js m .output ≡ painted (λ i. named a b js (pair-at (extent (p .header)) i)) (composed-at p base enhancement) (m .output)
   unfolding run named
   run-output [] m none e f = sym (painted-none _ _ _ (λ i l. refl))
   run-output (j ∷ js) m (more k ks) e f =
@@ -82,12 +78,12 @@ module _ (p : Plan) (base enhancement : List ℕ) (a b : ℕ) where
       ∙ painted-over _ _ _ _
 
 -- ---- one job more at the end
-named-last : (a b : ℕ) (js : List Job) (j : Job) (k : ℕ) → named a b (js ++ (j ∷ [])) k ≡ (named a b js k || (accepted j a b && names j k))
+named-last : (a b : ℕ) (js : List Job) (j : Job) (k : ℕ) → named a b (js ++ (j ∷ [])) k ≡ (named a b js k || (accepted j a b && names (j .work) k))
 unfolding named
 named-last a b [] j k = or-false _
 named-last a b (i ∷ js) j k =
-    ap (λ (u : Bool). (accepted i a b && names i k) || u) (named-last a b js j k)
-    ∙ sym (or-assoc (accepted i a b && names i k) (named a b js k) (accepted j a b && names j k))
+    ap (λ (u : Bool). (accepted i a b && names (i .work) k) || u) (named-last a b js j k)
+    ∙ sym (or-assoc (accepted i a b && names (i .work) k) (named a b js k) (accepted j a b && names (j .work) k))
 
 -- ---- a job that was sent before, sent again
 again : (x y : Bool) → ((x || y) || x) ≡ (x || y)
@@ -95,12 +91,12 @@ again true y = refl
 again false true = refl
 again false false = refl
 
-absorbed : (a b : ℕ) {j : Job} {js : List Job} (k : ℕ) → Sent j js → (named a b js k || (accepted j a b && names j k)) ≡ named a b js k
+absorbed : (a b : ℕ) {j : Job} {js : List Job} (k : ℕ) → Sent j js → (named a b js k || (accepted j a b && names (j .work) k)) ≡ named a b js k
 unfolding named
-absorbed a b {j} k (here {js}) = again (accepted j a b && names j k) (named a b js k)
+absorbed a b {j} k (here {js}) = again (accepted j a b && names (j .work) k) (named a b js k)
 absorbed a b {j} k (later {i} {js} s) =
-    or-assoc (accepted i a b && names i k) (named a b js k) (accepted j a b && names j k)
-    ∙ ap (λ (u : Bool). (accepted i a b && names i k) || u) (absorbed a b k s)
+    or-assoc (accepted i a b && names (i .work) k) (named a b js k) (accepted j a b && names (j .work) k)
+    ∙ ap (λ (u : Bool). (accepted i a b && names (i .work) k) || u) (absorbed a b k s)
 
 module _ {p : Plan} {base enhancement : List ℕ} {a b : ℕ} where
   keeps-of : {j : Job} {js : List Job} → AllKeep p base enhancement a b js → Sent j js → Keeps p base enhancement a b j
@@ -111,9 +107,12 @@ module _ {p : Plan} {base enhancement : List ℕ} {a b : ℕ} where
   keep-also none k = more k none
   keep-also (more l ks) k = more l (keep-also ks k)
 
-answer-done : (j : Job) (m : Memory) (a b : ℕ) → length (m .output) ≡ a → length (m .marks) ≡ b → accepted j a b ≡ true → job-answer j (m .output) (m .marks) ≡ Done (tally is-waiting (step j m .marks))
-unfolding job-answer
-answer-done j m a b e f h = let t : accepted j (length (m .output)) (length (m .marks)) ≡ true = ap₂ (accepted j) e f ∙ h in rw t
+answer-done : (j : Job) (m : Memory) (a b : ℕ) → length (m .output) ≡ a → length (m .marks) ≡ b → accepted j a b ≡ true → job-answer j (m .output) (m .marks) ≡ granted (tally is-waiting (step j m .marks) ∷ [])
+unfolding job-answer accepted
+answer-done j m a b e f h = sym (outcome-granted _ _ (ap₂ (job-refusal j) e f ∙ eqb-true _ 0 h))
+
+leaves : (o : Outcome) (n left : ℕ) → o ≡ granted (n ∷ []) → n ≡ left → Leaves o left
+leaves o n left e q = let d = e ∙ ap (λ (x : ℕ). granted (x ∷ [])) q in record { is-done = ap (λ (x : Outcome). x .refused) d; rows = ap (λ (x : Outcome). getD (x .values) 0 0) d; all = ap complete d }
 
 pub standby-night : StandbyNight
 standby-night p base enhancement output marks js fits ks =
@@ -121,7 +120,7 @@ standby-night p base enhancement output marks js fits ks =
       composed = λ i l h. at i l ∙ ap (λ (u : Bool). cond u (composed-at p base enhancement i) (getD output i 0)) h;
       others = λ i l h. at i l ∙ ap (λ (u : Bool). cond u (composed-at p base enhancement i) (getD output i 0)) h;
       size = output-size;
-      rows-left = λ j k h. let is-done = done-with j k h in (is-done, ap complete is-done);
+      next = λ j k h. leaves _ _ _ (answer-done j end a b output-size marks-size h) (left-with j k);
       sent-again = sent-again;
     }
   where
@@ -140,7 +139,7 @@ standby-night p base enhancement output marks js fits ks =
     begin-marks : length (begin .marks) ≡ b
     begin-marks = ap length (cleared p marks fits) ∙ length-painted _ _ marks
 
-    output-is : end .output ≡ painted (λ i. named a b js (pair-at (p .header) i)) (composed-at p base enhancement) output
+    output-is : end .output ≡ painted (λ i. named a b js (pair-at (extent (p .header)) i)) (composed-at p base enhancement) output
     output-is = run-output p base enhancement a b js begin ks refl begin-marks
 
     output-size : length (end .output) ≡ a
@@ -152,17 +151,15 @@ standby-night p base enhancement output marks js fits ks =
     marks-size : length (end .marks) ≡ b
     marks-size = ap length marks-are ∙ length-painted _ _ (painted every-pair waiting marks) ∙ length-painted _ _ marks
 
-    at : (i : ℕ) → i < a → getD (end .output) i 0 ≡ cond (named a b js (pair-at (p .header) i)) (composed-at p base enhancement i) (getD output i 0)
+    at : (i : ℕ) → i < a → getD (end .output) i 0 ≡ cond (named a b js (pair-at (extent (p .header)) i)) (composed-at p base enhancement i) (getD output i 0)
     at i l = ap (λ (r : List ℕ). getD r i 0) output-is ∙ at-painted _ _ output i 0 l
 
-    done-with : (j : Job) → Keeps p base enhancement a b j → accepted j a b ≡ true → job-answer j (end .output) (end .marks) ≡ Done (rows-left-after p a b (js ++ (j ∷ [])))
-    done-with j k h =
-        answer-done j end a b output-size marks-size h
-        ∙ ap (λ (l : List ℕ). Done (tally is-waiting l)) (marks-step p base enhancement a b j end output-size marks-size ∙ ap (painted _ done) marks-are ∙ painted-over _ _ done _)
-        ∙ ap Done
-        (left-waiting _ marks
+    left-with : (j : Job) → Keeps p base enhancement a b j → tally is-waiting (step j end .marks) ≡ rows-left-after p a b (js ++ (j ∷ []))
+    left-with j k =
+        ap (tally is-waiting) (marks-step p base enhancement a b j end output-size marks-size ∙ ap (painted _ done) marks-are ∙ painted-over _ _ done _)
+        ∙ left-waiting _ marks
         ∙ ap (count-below _) (opening-marked p b fits)
-        ∙ count-cong _ _ (p .header .pairs) (λ i l. ap not (sym (named-last a b js j i))))
+        ∙ count-cong _ _ (p .header .pairs) (λ i l. ap not (sym (named-last a b js j i)))
 
     sent-again : (j : Job) → Sent j js → run (js ++ (j ∷ [])) begin ≡ run js begin
     sent-again j s =
@@ -170,7 +167,7 @@ standby-night p base enhancement output marks js fits ks =
         let same : (k : ℕ) → named a b (js ++ (j ∷ [])) k ≡ named a b js k = λ k. named-last a b js j k ∙ absorbed a b k s in
         ap₂ (λ (o m : List ℕ). record { output = o; marks = m })
         (run-output p base enhancement a b (js ++ (j ∷ [])) begin ls refl begin-marks
-        ∙ painted-cong _ _ _ _ output (λ i l. same (pair-at (p .header) i)) (λ i l t. refl)
+        ∙ painted-cong _ _ _ _ output (λ i l. same (pair-at (extent (p .header)) i)) (λ i l t. refl)
         ∙ sym (run-output p base enhancement a b js begin ks refl begin-marks))
         (run-marks p base enhancement a b (js ++ (j ∷ [])) begin ls refl begin-marks
         ∙ painted-cong _ _ _ _ (begin .marks) (λ i l. same i) (λ i l t. refl)
