@@ -1,9 +1,9 @@
 -- The HDR sample by a raised residual and a cut sum is the standard's. Assumes nothing.
 use mathlib.Core.Path.{_≡_, refl, sym, ap, subst, _∙_}
 use mathlib.Core.Bool.{Bool, true, false, cond, true≢false}
-use mathlib.Core.Logic.{⊎-elim}
+use mathlib.Core.Logic.{_⊎_, inl, inr, ⊎-elim}
 use Prim.Native.Nat.{ℕ, suc, _+_, _-_, _*_, _/_, _^_, _<_, _≤_, min}
-use native.Mathlib.Nat.{le-trans, le-of-eq, add-zero, add-comm, mul-assoc, add-mul-div-right, div-le-self, div-lt-iff-lt-mul, le-div-iff-mul-le, div-div-eq-div-mul}
+use native.Mathlib.Nat.{le-trans, le-of-eq, add-zero, add-comm, mul-comm, mul-assoc, mul-sub, add-mul-div-right, div-le-self, div-lt-iff-lt-mul, le-div-iff-mul-le, div-div-eq-div-mul}
 use native.Mathlib.Omega.{arith}
 use lib.Dec.{T, ltb}
 use lib.IntN.{ℤ, pos, negsuc, natAbs, _+ℤ_, +ℤ-assoc}
@@ -110,7 +110,28 @@ pub sum-less : (out v : ℕ) (r : ℤ) → v ≤ 65535 → (v + raised out r) / 
 unfolding raised
 sum-less out v r small = omega arith
 
--- a sample without residual
-pub plain : (out v : ℕ) → reconstructed out v (pos 0) ≡ min ((v + 2 ^ (15 - out)) / 2 ^ (16 - out)) (2 ^ out - 1)
-unfolding reconstructed
-plain out v = rw add-zero
+-- a sample without residual may be cut before it is rounded
+module _ (out : ℕ) (h : out ≤ 12) where
+  bias : 2 ^ (16 - out) * 2 ^ out ≡ 2 ^ 16
+  bias = let e : 16 - out + out ≡ 16 = omega arith in sym (pow-add 2 (16 - out) out) ∙ ap (λ (n : ℕ). 2 ^ n) e
+
+  inside : (k : ℕ) → k < 2 ^ 16 → k / 2 ^ (16 - out) < 2 ^ out
+  inside k b = div-lt-iff-lt-mul (pow-pos (16 - out)) .1 (rw (mul-comm, bias) b)
+
+  edge : 2 ^ out - 1 ≤ 65535 / 2 ^ (16 - out)
+  edge = le-div-iff-mul-le (pow-pos (16 - out)) .1 (rw (mul-comm, mul-sub, bias) (omega (arith, pow-pos (16 - out))))
+
+  past : (k : ℕ) → 2 ^ 16 ≤ k → 2 ^ out ≤ k / 2 ^ (16 - out)
+  past k b = le-div-iff-mul-le (pow-pos (16 - out)) .1 (rw (mul-comm, bias) b)
+
+  pub plain : (v : ℕ) → (min v (65535 - 2 ^ (15 - out)) + 2 ^ (15 - out)) / 2 ^ (16 - out) ≡ reconstructed out v (pos 0)
+  unfolding reconstructed
+  plain v = rw add-zero (go (pow-mono {i = 15 - out} {j = 15} (omega arith)) (lt-or-ge (65535 - 2 ^ (15 - out)) v))
+    where
+      go : {half : ℕ} → half ≤ 2 ^ 15 → (65535 - half < v) ⊎ (v ≤ 65535 - half) → (min v (65535 - half) + half) / 2 ^ (16 - out) ≡ min ((v + half) / 2 ^ (16 - out)) (2 ^ out - 1)
+      go {half} s (inl p) =
+          let e : min v (65535 - half) + half ≡ 65535 = omega arith in
+          rw e (omega (arith, edge, inside 65535 (omega arith), past (v + half) (omega arith)))
+      go {half} s (inr p) =
+          let e : min v (65535 - half) ≡ v = omega arith in
+          rw e (omega (arith, inside (v + half) (omega arith)))

@@ -34,7 +34,7 @@ pub(crate) fn raise_codes(h: Header, c: Component) -> [u32; 1024]
 }
 
 pub(crate) fn finish_codes(out: u32, mapped: &[u16; 1024]) -> [u16; 1024]
-    requires { ⌜ out ≤ 12 ⌝ }
+    requires { ⌜ (1 ≤ out) × (out ≤ 12) ⌝ }
     ensures { λ r. ⌜ r ≡ table 1024 (finished-by out (now (mapped .entry))) ⌝ }
 {
     let mut table = [0u16; 1024];

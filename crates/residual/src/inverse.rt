@@ -4,6 +4,7 @@ use plan::Nlq;
 ghost use mathlib.Core.Path.{_≡_};
 ghost use Prim.Native.Nat.{_≤_, _^_};
 ghost use lib.IntN.{pos, natAbs, _-ℤ_};
+ghost use lib.Signed.{shrZ};
 ghost use Rattle.standard.specs.Residual.{sign-of, scaled, limit, limited, residual};
 ghost use Rattle.plan.specs.Parameters.{quantization};
 ghost use Rattle.residual.specs.Steps.{NlqRanges};
@@ -52,7 +53,15 @@ fn limit_to(most: i64, dq: i64) -> i64
     dq
 }
 
-// The residual of an enhancement sample. The last shift rounds down, also below 0.
+// A number divided by a power of two, and rounded down: `/` would round a negative one toward 0.
+fn down(l: i64, k: u32) -> i64
+    requires { ⌜ k ≤ 32 ⌝ }
+    ensures { λ r. ⌜ r ≡ shrZ l (2 ^ k) ⌝ }
+{
+    l >> k
+}
+
+// The residual of an enhancement sample.
 pub(crate) fn residual_of(el: u32, d: u32, q: Nlq, e: u16) -> i64
     requires { ⌜ NlqRanges el d q ⌝ }
     ensures is { λ r. ⌜ r ≡ residual el d (quantization q) e ⌝ }
@@ -64,5 +73,5 @@ pub(crate) fn residual_of(el: u32, d: u32, q: Nlq, e: u16) -> i64
     }
     let dq = scale(el, q.slope, q.threshold, rr, sign(rr));
     let l = limit_to(limit_of(el, q.maximum), dq);
-    l >> (d - 5 - el)
+    down(l, d - 5 - el)
 }

@@ -27,15 +27,17 @@ pub(crate) fn raise(out: u32, r: i64) -> u32
     u as u32
 }
 
-// The HDR sample of a mapped sample without residual.
+// The HDR sample of a mapped sample without residual. It is cut before it is rounded, in 16 bits throughout, so that a loop
+// finishes eight at once.
 pub(crate) fn finish(out: u32, v: u16) -> u16
-    requires { ⌜ out ≤ 12 ⌝ }
+    requires { ⌜ (1 ≤ out) × (out ≤ 12) ⌝ }
     ensures { λ h. ⌜ h ≡ reconstructed out v (pos 0) ⌝ }
 {
-    let h = ((v as u64) + power(15 - out)) >> (16 - out);
-    let most = power(out) - 1;
-    if most < h {
-        return most as u16;
+    let half = power(15 - out) as u16;
+    let room = 65535 - half;
+    let mut t = v;
+    if room < t {
+        t = room;
     }
-    h as u16
+    (t + half) >> (16 - out)
 }

@@ -19,7 +19,9 @@ pub fn look_up(table: &[u16; 1024], base: &[u16], output: &mut [u16])
     let n = least(base.len(), output.len());
     let mut i = 0;
     while i < n {
-        output[i] = mapped_entry(table, base[i]);
+        let s = base[i];
+        let v = mapped_entry(table, s);
+        output[i] = v;
         i += 1;
     }
 }
@@ -39,9 +41,10 @@ pub fn add_up(
     let n = least(least(base.len(), enhancement.len()), output.len());
     let mut i = 0;
     while i < n {
-        let v = mapped_entry(mapped, base[i]);
-        let r = raised_entry(raised, enhancement[i]);
-        output[i] = cut_of(cuts, v, r);
+        let s = base[i];
+        let e = enhancement[i];
+        let h = cut_of(cuts, mapped_entry(mapped, s), raised_entry(raised, e));
+        output[i] = h;
         i += 1;
     }
 }

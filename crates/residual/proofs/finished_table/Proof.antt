@@ -34,5 +34,5 @@ finished-table-spec =
     returns
     (λ c. search needs)
     (λ c. search needs)
-    (λ c κs. let e : tie.Else1 = search needs in omega (arith, header-kept _ (passed e) .out-depth))
+    (λ c κs. let e : tie.Else1 = search needs in (omega arith, omega (arith, header-kept _ (passed e) .out-depth)))
     returns-2)

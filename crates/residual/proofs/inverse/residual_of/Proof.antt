@@ -1,17 +1,18 @@
 -- The residual by its steps: what each callee was passed is what the machine reads back from its words. Assumes nothing.
 use mathlib.Core.Path.{_≡_, ap, _∙_}
 use borrow.Author.Needs.{needs, sfits-of}
-use Prim.Native.Nat.{ℕ, _≤_, _+_, _-_, _^_, zero-le}
+use Prim.Native.Nat.{ℕ, _<_, _≤_, _+_, _-_, _^_, zero-le}
 use native.Mathlib.Nat.{le-trans}
 use native.Mathlib.Omega.{arith}
 use lib.Pow.{pow-mono}
-use lib.IntN.{natAbs}
+use lib.IntN.{ℤ}
+use lib.Signed.{mag, shrZ}
 use mir.Syntax.{w64}
-use mir.Val.{ofZ}
+use mir.Val.{ofZ, toZ}
 use mir.Facts.{toZ-ofZ}
 use Rattle.standard.specs.Residual.{sign-of}
 use Rattle.standard.proofs.Residuals.{sign-le, none, steps, residual-le}
-use Rattle.words.proofs.Holding.{Holds, result, shr-back}
+use Rattle.words.proofs.Holding.{Holds, result}
 use Rattle.words.proofs.Tests.{zero-word}
 use Rattle.plan.specs.Parameters.{quantization}
 use Rattle.residual.proofs.inverse.residual_of.Statement.{statement}
@@ -20,6 +21,10 @@ use Rattle.residual.proofs.inverse.residual_of.Tie as tie
 -- a bound that goes with d, as a number
 within : {n d : ℕ} → n ≤ 2 ^ (d + 1) → d ≤ 32 → n ≤ 2 ^ 33
 within {d = d} h l = le-trans h (pow-mono {i = d + 1} {j = 33} (omega arith))
+
+-- a call's result, as the next one reads it
+read-back : (z : ℤ) → mag z < 2 ^ 63 → toZ w64 (ofZ w64 z) ≡ z
+read-back z h = toZ-ofZ (record { sfits = h })
 
 rr : (c : tie.After-distance) → Holds (ofZ w64 (c .distance .result)) (c .distance .result) (2 ^ 17)
 rr c = result (c .distance .ok) (c .distance .ensures .1)
@@ -52,16 +57,16 @@ returns-2 c =
     let sg : tie.After-sign = search needs in
     let sc : tie.After-scale = search needs in
     let li : tie.After-limit-of = search needs in
+    let lt : tie.After-limit-to = search needs in
     let a = st .args in
     let q = quantization (a .q) in
-    let fq = sfits-of {w = w64} {z = sc .scale .result} (sc .scale .ok) in
     let e =
-    shr-back (2 ^ (a .d - 5 - a .el)) (sfits-of {w = w64} {z = c .limit-to .result} (c .limit-to .ok))
+    read-back (c .down .result) (c .down .ok) ∙ c .down .ensures ∙ ap (λ (z : ℤ). shrZ z (2 ^ (a .d - 5 - a .el))) (read-back (lt .limit-to .result) (lt .limit-to .ok))
     ∙ steps (a .el) (a .d) q (a .e)
-    (di .distance .result) (sg .sign .result) (sc .scale .result) (li .limit-of .result) (c .limit-to .result)
+    (di .distance .result) (sg .sign .result) (sc .scale .result) (li .limit-of .result) (lt .limit-to .result)
     (di .distance .ensures .0) (λ z. sg .before .if1 .left (ap (ofZ w64) z)) (sign-is sg)
     (rw (rr di .is, sign sg .is) at (sc .scale .ensures)) (li .limit-of .ensures .0)
-    (rw (most li .is, toZ-ofZ fq) at (c .limit-to .ensures)) in
+    (rw (most li .is, read-back (sc .scale .result) (sc .scale .ok)) at (lt .limit-to .ensures)) in
     (e, rw e (residual-le (a .el) (a .d) q (st .pre .shallow) (st .pre .deep) (st .pre .maximum) (a .e)))
 
 pub residual-of-spec : {M : Type 1} → statement M
@@ -76,6 +81,5 @@ residual-of-spec =
     (λ c κs. rw (most c .is) (most c .le))
     (λ c. search needs)
     (λ c. search needs)
-    (λ c. search needs)
-    (λ c. search needs)
+    (λ c κs. search needs)
     returns-2)
