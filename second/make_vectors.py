@@ -85,10 +85,10 @@ def inspect_files(outdir):
     good = picture.contents(os.path.join(outdir, "compose_file", "data", "block"))
     files, lines = {}, []
     blocks = inspect_cases.all_blocks(good)
-    for name, data in blocks:
-        files[os.path.join("inspect", "data", name)] = data
-        lines += inspect_block.inspect(name, data)
-    files[os.path.join("inspect", "args")] = text([name for name, _ in blocks])
+    for shown in blocks:
+        files[os.path.join("inspect", "data", shown.name)] = shown.data
+        lines += inspect_block.inspect(shown.name, shown.data)
+    files[os.path.join("inspect", "args")] = text([shown.name for shown in blocks])
     files[os.path.join("inspect", "stdout")] = text(lines)
     return files
 
