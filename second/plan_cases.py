@@ -179,11 +179,14 @@ def shrunk_cases(plan, cmp):
 def order_cases(plan, cmp):
     """The third coefficient with the order that uses it, and with the one that does not."""
     allowed = limits.coefficients(plan.coefficient_log2_denom)
-    order, third = ("poly_order_minus1", cmp, 0), ("fp_poly_coef", cmp, 0, 2)
-    return [make_case("order and third coefficient", plan, [(order, value), (third, z)], number)
-            for value, z, number in (
-                (1, allowed[0], 0), (1, allowed[-1], 0), (1, allowed[0] - 1, 7),
-                (1, allowed[-1] + 1, 7), (0, 0, 0), (0, 1, 7), (0, -1, 7), (2, 0, 7))]
+    cases = []
+    for piece in range(limits.pieces(plan.num_pivots_minus2[cmp])):
+        order, third = ("poly_order_minus1", cmp, piece), ("fp_poly_coef", cmp, piece, 2)
+        cases += [make_case("order and third coefficient", plan, [(order, value), (third, z)],
+                            number)
+                  for value, z, number in ((1, allowed[-1], 0), (1, allowed[-1] + 1, 7),
+                                           (0, 0, 0), (0, 1, 7))]
+    return cases
 
 
 def rescaled_cases(plan, cmp):
