@@ -18,6 +18,7 @@ Group = namedtuple("Group", "plan cases")
 Case = namedtuple("Case", "kind edits")
 
 LOWEST, HIGHEST = -1 << 63, (1 << 63) - 1       # of the field that holds a coefficient
+SPARE = 8           # how far d may fall before a number of a base plan breaks its range
 
 # The names of block_cases for the header's fields that a plan has.
 HEADER_NAMES = {"profile": "ccm_profile", "level": "ccm_level", "hdr": "hdr_bit_depth_minus8",
@@ -35,15 +36,16 @@ def make_case(kind, plan, edits, number=None):
 
 def base_plan(depth, d, sizes, generator):
     """A plan with these n; every place that is used is not 0, so that none can be left out."""
+    small = d - SPARE
     sections = []
     for n in sizes:
         pivots = [1 + generator.below(9)]
         for _ in range(limits.pieces(n)):
             pivots.append(pivots[-1] + generator.between(1, limits.samples(depth)[-1]))
-        pieces = [[nonzero(limits.coefficients(d), generator)
+        pieces = [[nonzero(limits.coefficients(small), generator)
                    for _ in range(limits.coefs((n + piece) % 2))]
                   for piece in range(limits.pieces(n))]
-        numbers = [nonzero(limits.nlq_numbers(d), generator) for _ in range(3)]
+        numbers = [nonzero(limits.nlq_numbers(small), generator) for _ in range(3)]
         sections.append(Section(pivots, pieces, Nlq(generator.between(1, 200), *numbers)))
     return make_plan(depth, d, generator.choice(limits.HDR_DEPTHS), 192, 108, sections)
 
@@ -64,7 +66,7 @@ def header_cases(plan):
                                 7 if number else 0) for value, number in values]
     for value, number in denominator_values(depth):
         cases.append(make_case("header, d", plan, [(("coefficient_log2_denom",), value)],
-                               7 if number else None if value < d else 0))
+                               7 if number else None if value < d - SPARE else 0))
     for bl, el, value, number in depth_values(d):
         edits = [(("BL_bit_depth_minus8",), bl), (("EL_bit_depth_minus8",), el),
                  (("coefficient_log2_denom",), value)]
