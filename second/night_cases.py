@@ -266,7 +266,7 @@ def order_nights(generator):
 def outside_nights(generator):
     """Bad samples and the largest good ones: outside its row pairs none matters."""
     nights = []
-    for depth, d, flag in ((8, 25, 0), (10, 15, 0), (10, 30, 1)):
+    for depth, d, flag in ((8, 25, 0), (10, denominators(10)[0], 0), (10, 30, 1)):
         stock = plain_stock(depth, d, 10, 4, 8, generator, flag)
         inside = [at for k in (1, 2) for _, at in row_pair_samples(stock.plan, k)]
         base, enhancement = (

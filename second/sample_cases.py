@@ -404,7 +404,7 @@ def example_cases():
                     Section(luma[i - 1][0], luma[i - 1][1], still),
                     Section(luma[i - 2][0], luma[i - 2][1], still)]
         base = samples + [luma[i - 1][2][0], luma[i - 2][2][1]]
-        for hdr_bit_depth in (10, 12):
+        for hdr_bit_depth in HDR_DEPTHS:
             for flag in (0, 1):
                 plan = make_plan(10, 15, hdr_bit_depth, 2, 2, sections, flag)
                 cases.append(whole("worked example", plan, base, []))
@@ -435,11 +435,11 @@ def random_run(size, depth, generator):
 def flag_cases(generator):
     """Flag 0 and 1; enhancement absent, present, or wrong where it is ignored."""
     cases = []
-    for depth, d in ((8, 13), (10, 24)):
+    for depth, d in ((8, denominators(8)[0]), (10, 24)):
         sections = plain_sections(depth, d, generator)
         base = random_run(24, depth, generator)
         right = random_run(24, depth, generator)
-        for hdr_bit_depth in (10, 12):
+        for hdr_bit_depth in HDR_DEPTHS:
             plan = make_plan(depth, d, hdr_bit_depth, 4, 4, sections, 0)
             cases.append(whole("flag 0, enhancement used", plan, base, right))
             cases.append(whole("flag 0, enhancement absent", plan, base, []))
