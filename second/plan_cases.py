@@ -91,7 +91,7 @@ def is_used(plan, place):
 
 def used_edges(plan, place):
     """(value, answer) at and beyond the ends of a place that is used."""
-    name, cmp = place[:2]
+    name = place[0]
     depth, d = plan.BL_bit_depth, plan.coefficient_log2_denom
     if name == "num_pivots_minus2":
         n = get(plan, place)
