@@ -1,8 +1,9 @@
-"""Answers the three vector streams; README.md gives their formats.
+"""Answers the four vector streams; README.md gives their formats.
 
     python3 answers.py sample_vectors < stdin > stdout
     python3 answers.py block_vectors < stdin > stdout
     python3 answers.py night_vectors < stdin > stdout
+    python3 answers.py plan_vectors < stdin > stdout
 """
 
 import struct
@@ -11,7 +12,8 @@ import sys
 import block
 import jobs
 import nights
-from composer import PIECE_PLACES, Plan
+import places
+from composer import Plan
 
 NO_RUN = 255        # the place of an enhancement run that is not present
 
@@ -41,6 +43,12 @@ class Stream:
 
     def u32(self):
         return struct.unpack(">I", self.bytes(4))[0]
+
+    def u64(self):
+        return struct.unpack(">Q", self.bytes(8))[0]
+
+    def s64(self):
+        return struct.unpack(">q", self.bytes(8))[0]
 
     def samples(self):
         size = self.u16()
@@ -102,30 +110,26 @@ def _block_answer(stream, bases):
     number, plan = block.read(edited[start:stop])
     if number != 0:
         return "refused %d" % number
-    shown = ["%d:%d" % place for place in enumerate(places(plan)) if place[1] != 0]
+    shown = ["%d:%d" % place for place in enumerate(places.values(plan)) if place[1] != 0]
     return " ".join(["plan"] + shown)
 
 
-def places(plan):
-    """Every place of a plan in the order in which the vectors number them."""
-    out = [plan.ccm_profile, plan.ccm_level, plan.coefficient_log2_denom,
-           plan.BL_bit_depth_minus8, plan.EL_bit_depth_minus8,
-           plan.hdr_bit_depth_minus8, plan.disable_residual_flag,
-           plan.half_width, plan.half_height,
-           plan.max_display_mastering_luminance,
-           plan.min_display_mastering_luminance]
-    for cmp in range(3):
-        out.append(plan.num_pivots_minus2[cmp])
-        out.extend(plan.pred_pivot_value[cmp])
-        for piece in range(PIECE_PLACES):
-            out.append(plan.mapping_idc[cmp][piece])
-            out.append(plan.poly_order_minus1[cmp][piece])
-            out.extend(plan.fp_poly_coef[cmp][piece])
-        out.append(plan.nlq_offset[cmp])
-        out.append(plan.fp_hdr_in_max[cmp])
-        out.append(plan.fp_linear_deadzone_slope[cmp])
-        out.append(plan.fp_linear_deadzone_threshold[cmp])
-    return out
+def plan_answers(data):
+    """One line a case: 7 where the changed plan breaks rule 7, else 0."""
+    stream = Stream(data)
+    lines = []
+    while stream.more():
+        plan = _valid_plan(stream)
+        lines += [_plan_answer(stream, plan) for _ in range(stream.u16())]
+    return lines
+
+
+def _plan_answer(stream, plan):
+    edits = []
+    for _ in range(stream.u8()):
+        place = places.PLACES[stream.u16()]
+        edits.append((place, stream.s64() if places.is_signed(place) else stream.u64()))
+    return "7" if jobs.breaks_rule_7(places.changed(plan, edits)) else "0"
 
 
 def night_answers(data):
@@ -166,9 +170,9 @@ def _done(left):
 
 def main():
     answers = {"sample_vectors": sample_answers, "block_vectors": block_answers,
-               "night_vectors": night_answers}
+               "night_vectors": night_answers, "plan_vectors": plan_answers}
     if len(sys.argv) != 2 or sys.argv[1] not in answers:
-        sys.exit("usage: answers.py sample_vectors|block_vectors|night_vectors < stdin")
+        sys.exit("usage: answers.py %s < stdin" % "|".join(answers))
     for line in answers[sys.argv[1]](sys.stdin.buffer.read()):
         print(line)
 

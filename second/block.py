@@ -7,12 +7,9 @@ for 3 and then for 5 or 6, and each section's left-over bytes (3) at its end.
 
 import struct
 
+import limits
 from composer import Plan
-
-TRAILER_BYTES = 12
-HEADER_BYTES = 24
-LISTED_PROFILES = (1, 3, 4)     # GS CCM 001, clauses A.2.1 to A.2.3
-LISTED_LEVELS = (0,)            # GS CCM 001, table A.1
+from limits import DEPTHS, HDR_DEPTHS, HEADER_BYTES, TRAILER_BYTES, minus8
 
 
 class Refusal(Exception):
@@ -36,7 +33,8 @@ def _read_block(data):
         raise Refusal(1)
     t = len(data) - TRAILER_BYTES
     A, D0, D1, D2, version, zero = struct.unpack_from(">6H", data, t)
-    if version != 1 or zero != 0 or A - D0 != 24 or not D0 > D1 > D2 > 0:
+    if (version not in limits.VERSIONS or zero not in limits.ZERO
+            or A - D0 != HEADER_BYTES or not D0 > D1 > D2 > 0):
         raise Refusal(2)
     if A > t:
         raise Refusal(1)
@@ -58,26 +56,26 @@ def _read_header(header):
         half_width=half_width, half_height=half_height,
         max_display_mastering_luminance=lum_max,
         min_display_mastering_luminance=lum_min)
-    if zero7 != 0 or zero14 != 0 or zero20 != 0 or not header_in_range(plan):
+    if any((zero7, zero14, zero20)) or not header_in_range(plan):
         raise Refusal(4)
     return plan
 
 
 def header_in_range(plan):
     """House rules, column "Allowed" of the header, on the plan's fields."""
-    return (plan.ccm_profile in LISTED_PROFILES
-            and plan.ccm_level in LISTED_LEVELS
-            and plan.BL_bit_depth_minus8 in (0, 2)
-            and plan.EL_bit_depth_minus8 in (0, 2)
+    lum_max = plan.max_display_mastering_luminance
+    return (plan.ccm_profile in limits.PROFILES
+            and plan.ccm_level in limits.LEVELS
+            and plan.BL_bit_depth_minus8 in minus8(DEPTHS)
+            and plan.EL_bit_depth_minus8 in minus8(DEPTHS)
             and plan.BL_bit_depth_minus8 == plan.EL_bit_depth_minus8
-            and plan.EL_bit_depth + 5 <= plan.coefficient_log2_denom <= 32
-            and plan.hdr_bit_depth_minus8 in (2, 4)
-            and plan.disable_residual_flag in (0, 1)
-            and 1 <= plan.half_width <= 2048
-            and 1 <= plan.half_height <= 1152
-            and 0 <= plan.max_display_mastering_luminance <= 10000
-            and 0 <= plan.min_display_mastering_luminance
-            < 10000 * plan.max_display_mastering_luminance)
+            and plan.coefficient_log2_denom in limits.denominators(plan.EL_bit_depth)
+            and plan.hdr_bit_depth_minus8 in minus8(HDR_DEPTHS)
+            and plan.disable_residual_flag in limits.FLAGS
+            and plan.half_width in limits.HALF_WIDTHS
+            and plan.half_height in limits.HALF_HEIGHTS
+            and lum_max in limits.LUMINANCES
+            and plan.min_display_mastering_luminance in limits.darkest(lum_max))
 
 
 class _Fields:
@@ -99,46 +97,47 @@ class _Fields:
             raise Refusal(3)
 
 
-def _in_range(value, low, high):
-    """Hand the value back when low <= value <= high, else refuse 5."""
-    if not low <= value <= high:
+def _in_range(value, allowed):
+    """Hand the value back when it is allowed, else refuse 5."""
+    if value not in allowed:
         raise Refusal(5)
     return value
 
 
-def _take_fixed_point(fields, low, high, d):
-    """An integer part from low to high and a fraction below 2^d: two fields."""
-    integer = _in_range(fields.take(1, signed=low < 0), low, high)
-    fraction = _in_range(fields.take(4), 0, (1 << d) - 1)
+def _take_fixed_point(fields, integers, d):
+    """An integer part and a fraction below 2^d: two fields."""
+    integer = _in_range(fields.take(1, signed=integers[0] < 0), integers)
+    fraction = _in_range(fields.take(4), limits.fractions(d))
     return integer * (1 << d) + fraction
 
 
 def _take_mapping_idc(fields, cmp):
     mapping_idc = fields.take(1)
-    if mapping_idc == 1 and cmp in (1, 2):
+    if mapping_idc == limits.MMR and cmp in (1, 2):
         raise Refusal(6)
-    return _in_range(mapping_idc, 0, 0)
+    return _in_range(mapping_idc, limits.MAPPING)
 
 
 def _read_section(plan, cmp, section):
     """House rules, "Section, in order"."""
     d = plan.coefficient_log2_denom
     fields = _Fields(section)
-    n = _in_range(fields.take(1), 0, 15)
+    n = _in_range(fields.take(1), limits.N)
     plan.num_pivots_minus2[cmp] = n
-    for i in range(n + 2):
+    for i in range(limits.pivots(n)):
         plan.pred_pivot_value[cmp][i] = _in_range(
-            fields.take(2), 0, (1 << plan.BL_bit_depth) - 1)
-    for piece in range(n + 1):
+            fields.take(2), limits.samples(plan.BL_bit_depth))
+    for piece in range(limits.pieces(n)):
         plan.mapping_idc[cmp][piece] = _take_mapping_idc(fields, cmp)
-        order = _in_range(fields.take(1), 0, 1)
+        order = _in_range(fields.take(1), limits.ORDERS)
         plan.poly_order_minus1[cmp][piece] = order
-        for i in range(order + 2):
-            plan.fp_poly_coef[cmp][piece][i] = _take_fixed_point(fields, -64, 63, d)
-    plan.nlq_offset[cmp] = _in_range(fields.take(2), 0, (1 << plan.EL_bit_depth) - 1)
-    plan.fp_hdr_in_max[cmp] = _take_fixed_point(fields, 0, 1, d)
-    plan.fp_linear_deadzone_slope[cmp] = _take_fixed_point(fields, 0, 1, d)
-    plan.fp_linear_deadzone_threshold[cmp] = _take_fixed_point(fields, 0, 1, d)
+        for i in range(limits.coefs(order)):
+            plan.fp_poly_coef[cmp][piece][i] = _take_fixed_point(
+                fields, limits.COEF_INTS, d)
+    plan.nlq_offset[cmp] = _in_range(fields.take(2), limits.samples(plan.EL_bit_depth))
+    plan.fp_hdr_in_max[cmp] = _take_fixed_point(fields, limits.NLQ_INTS, d)
+    plan.fp_linear_deadzone_slope[cmp] = _take_fixed_point(fields, limits.NLQ_INTS, d)
+    plan.fp_linear_deadzone_threshold[cmp] = _take_fixed_point(fields, limits.NLQ_INTS, d)
     fields.end()
 
 
@@ -153,7 +152,7 @@ def assemble(header, sections):
     D2 = len(sections[2])
     D1 = D2 + len(sections[1])
     D0 = D1 + len(sections[0])
-    trailer = struct.pack(">6H", D0 + len(header), D0, D1, D2, 1, 0)
+    trailer = struct.pack(">6H", D0 + len(header), D0, D1, D2, limits.VERSIONS[0], 0)
     return header + b"".join(sections) + trailer
 
 
@@ -172,12 +171,12 @@ def section_bytes(plan, cmp):
     d = plan.coefficient_log2_denom
     n = plan.num_pivots_minus2[cmp]
     out = bytearray([n])
-    for i in range(n + 2):
+    for i in range(limits.pivots(n)):
         out += struct.pack(">H", plan.pred_pivot_value[cmp][i])
-    for piece in range(n + 1):
+    for piece in range(limits.pieces(n)):
         order = plan.poly_order_minus1[cmp][piece]
         out += bytes([plan.mapping_idc[cmp][piece], order])
-        for i in range(order + 2):
+        for i in range(limits.coefs(order)):
             out += _fixed_point_bytes(plan.fp_poly_coef[cmp][piece][i], d)
     out += struct.pack(">H", plan.nlq_offset[cmp])
     out += _fixed_point_bytes(plan.fp_hdr_in_max[cmp], d)

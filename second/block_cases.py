@@ -1,12 +1,18 @@
 """Reading cases for block_vectors: edges of the house rules' block, then damage.
 
-A case is a base block, some byte edits, and the slice of it that is read.
+A case is a base block, some byte edits, and the slice of it that is read.  Where
+one thing alone is wrong with a block, or nothing is, the case is made with the
+number that it is to show, and reading has to give it: so no case is lost when a
+limit moves.
 """
 
 from collections import namedtuple
 
 import block
+import limits
 from generator import Generator
+from limits import (DEPTHS, HDR_DEPTHS, HEADER_BYTES, SHORTEST_SECTION, TRAILER_BYTES,
+                    denominators, minus8)
 from sample_cases import Nlq, Section, make_plan, visible_piece
 
 Case = namedtuple("Case", "kind base start stop edits")
@@ -33,7 +39,7 @@ class Base:
 
     def _find_fields(self, plan, at):
         self._add(at, HEADER_FIELDS)
-        at += 24
+        at += HEADER_BYTES
         for cmp in range(3):
             fields = section_fields(plan, cmp)
             self._add(at, fields)
@@ -47,6 +53,12 @@ class Base:
     def value(self, name):
         field = self.fields[name]
         return int.from_bytes(self.data[field.offset:field.offset + field.size], "big")
+
+    def changed(self, edits):
+        data = bytearray(self.data)
+        for offset, byte in edits:
+            data[offset] = byte
+        return data
 
     def put(self, **values):
         """Edits that give these fields these values (a negative one wraps)."""
@@ -79,12 +91,12 @@ def section_fields(plan, cmp):
 
     n = plan.num_pivots_minus2[cmp]
     add("n", 1)
-    for i in range(n + 2):
+    for i in range(limits.pivots(n)):
         add("pivot%d" % i, 2)
-    for piece in range(n + 1):
+    for piece in range(limits.pieces(n)):
         add("p%d_idc" % piece, 1)
         add("p%d_order" % piece, 1)
-        for i in range(plan.poly_order_minus1[cmp][piece] + 2):
+        for i in range(limits.coefs(plan.poly_order_minus1[cmp][piece])):
             add_fixed_point("p%d_c%d" % (piece, i))
     add("offset", 2)
     add_fixed_point("max")
@@ -111,8 +123,16 @@ class Bases:
         return base
 
 
-def read_whole(kind, base, edits=()):
-    return Case(kind, base.number, 0, len(base.data), list(edits))
+def read_part(kind, base, start, stop, edits=(), number=None):
+    """A case; `number` is what reading has to answer, where the case is to show it."""
+    if number is not None:
+        answer, _ = block.read(base.changed(edits)[start:stop])
+        assert answer == number, "%s: %d in place of %d" % (kind, answer, number)
+    return Case(kind, base.number, start, stop, list(edits))
+
+
+def read_whole(kind, base, edits=(), number=None):
+    return read_part(kind, base, 0, len(base.data), edits, number)
 
 
 # Plans for the base blocks -------------------------------------------------
@@ -148,106 +168,169 @@ def middle_plan(generator):
 def zero_plan(pieces, order):
     """Sections of zeros: a wrong n or order then meets a wrong length only."""
     section = Section([0] * (pieces + 1), [[0] * (order + 1)] * pieces, Nlq(0, 0, 0, 0))
-    return make_plan(10, 15, 12, 8, 4, [section] * 3)
+    return make_plan(10, denominators(10)[0], 12, 8, 4, [section] * 3)
 
 
 def longest_plan(depth, d, generator):
-    """16 pieces of order 2 in each section, every coefficient its own."""
+    """All pieces of order 2 in each section, every coefficient its own; the largest size."""
     top = (1 << depth) - 1
+    most = range(limits.pieces(limits.N[-1]))
     sections = []
     for cmp in range(3):
         pivots = [cmp + 1]
-        for _ in range(16):
+        for _ in most:
             pivots.append(pivots[-1] + generator.between(1, top))
-        pieces = [[generator.between(-64 << d, (64 << d) - 1) for _ in range(3)]
-                  for _ in range(16)]
-        nlq = Nlq(top - cmp, *(generator.below(2 << d) for _ in range(3)))
+        pieces = [[generator.among(limits.coefficients(d)) for _ in range(3)] for _ in most]
+        nlq = Nlq(top - cmp, *(generator.among(limits.nlq_numbers(d)) for _ in range(3)))
         sections.append(Section(pivots, pieces, nlq))
-    return make_plan(depth, d, 12, 4096, 2304, sections)
+    return make_plan(depth, d, 12, 2 * limits.HALF_WIDTHS[-1], 2 * limits.HALF_HEIGHTS[-1],
+                     sections)
 
 
 # Header and trailer ---------------------------------------------------------
 
-HEADER_VALUES = (
-    ("profile", (0, 1, 2, 3, 4, 5, 255)),
-    ("level", (0, 1, 2, 255)),
-    ("hdr", (0, 1, 2, 3, 4, 5, 6, 255)),
-    ("flag", (0, 1, 2, 255)),
-    ("zero7", (1, 128, 255)),
-    ("half_width", (0, 1, 2, 2047, 2048, 2049, 4096, 65535)),
-    ("half_height", (0, 1, 2, 1151, 1152, 1153, 2304, 65535)),
-    ("zero14", (1, 256, 65535)),
-    ("zero20", (1, 1 << 8, 1 << 16, 1 << 24, (1 << 32) - 1)))
+def up_to(allowed, further):
+    """(value, answer): from 0 to some beyond the last that is allowed, and the largest byte."""
+    values = list(range(allowed[-1] + 1 + further)) + [255]
+    return [(value, 0 if value in allowed else 4) for value in values]
 
-LUMINANCES = (      # max in cd/m2, min in 0.0001 cd/m2
-    (0, 0), (0, 1), (1, 0), (1, 1), (1, 9999), (1, 10000), (1, 10001), (6, 59999),
-    (6, 60000), (7, 4463), (7, 4464), (7, 65536), (7, 69999), (7, 70000), (100, 5000),
-    (5000, 49999999), (5000, 50000000), (9999, 99989999), (9999, 99990000),
-    (10000, 99999999), (10000, 100000000), (10000, (1 << 32) - 1), (10001, 0),
-    (32768, 0), (65535, 0), (65535, 655349999))
+
+def size_edges(allowed):
+    least, most = allowed[0], allowed[-1]
+    return [(least - 1, 4), (least, 0), (least + 1, 0), (most - 1, 0), (most, 0),
+            (most + 1, 4), (2 * most, 4), (65535, 4)]
+
+
+def never(*values):
+    return [(value, 4) for value in values]
+
+
+HEADER_VALUES = (
+    ("profile", up_to(limits.PROFILES, 1)),
+    ("level", up_to(limits.LEVELS, 2)),
+    ("hdr", up_to(minus8(HDR_DEPTHS), 2)),
+    ("flag", up_to(limits.FLAGS, 1)),
+    ("zero7", never(1, 128, 255)),
+    ("half_width", size_edges(limits.HALF_WIDTHS)),
+    ("half_height", size_edges(limits.HALF_HEIGHTS)),
+    ("zero14", never(1, 256, 65535)),
+    ("zero20", never(1, 1 << 8, 1 << 16, 1 << 24, (1 << 32) - 1)))
+
+
+def luminances():
+    """(max in cd/m2, min in 0.0001 cd/m2, answer)."""
+    unit, top = limits.LUMINANCE_UNITS, limits.LUMINANCES[-1]
+    half = top // 2
+    return (
+        (0, 0, 4), (0, 1, 4), (1, 0, 0), (1, 1, 0), (1, unit - 1, 0), (1, unit, 4),
+        (1, unit + 1, 4), (6, 6 * unit - 1, 0), (6, 6 * unit, 4),
+        (7, (7 * unit - 1) % 65536, 0), (7, 7 * unit % 65536, 0), (7, 65536, 0),
+        (7, 7 * unit - 1, 0), (7, 7 * unit, 4), (100, 5000, 0),
+        (half, half * unit - 1, 0), (half, half * unit, 4),
+        (top - 1, (top - 1) * unit - 1, 0), (top - 1, (top - 1) * unit, 4),
+        (top, top * unit - 1, 0), (top, top * unit, 4), (top, (1 << 32) - 1, 4),
+        (top + 1, 0, 4), (32768, 0, 4), (65535, 0, 4), (65535, 65535 * unit - 1, 4))
+
+
+def denominator_values(depth):
+    """(d, answer): both depths' least d, the ends for this depth, and far beyond."""
+    least, most = denominators(depth)[0], denominators(depth)[-1]
+    near = range(denominators(DEPTHS[0])[0] - 1, denominators(DEPTHS[-1])[0] + 2)
+    return [(d, 0 if d in denominators(depth) else 4)
+            for d in (0, *near, least - 1, least, most - 1, most, most + 1, 2 * most, 255)]
+
+
+def depth_values(d):
+    """(bl, el, d, answer), every two depths; a good header leaves it to the sections."""
+    for bl, _ in up_to(minus8(DEPTHS), 1):
+        for el, _ in up_to(minus8(DEPTHS), 1):
+            for chosen in (d, denominators(DEPTHS[-1])[-1]):
+                good = (bl == el and el in minus8(DEPTHS)
+                        and chosen in denominators(el + 8))
+                yield bl, el, chosen, None if good else 4
 
 
 def header_cases(bases):
     cases = []
     for base in bases:
-        depth = base.value("el") + 8
         for name, values in HEADER_VALUES:
-            cases += [read_whole("header " + name, base, base.put_all([(name, value)]))
-                      for value in values]
-        cases += [read_whole("header d", base, base.put(d=d))
-                  for d in (0, 12, 13, 14, 15, 16, depth + 4, depth + 5, 31, 32, 33,
-                            64, 255)]
-        for bl in (0, 1, 2, 3, 255):
-            for el in (0, 1, 2, 3, 255):
-                for d in (base.value("d"), 32):
-                    cases.append(read_whole("header depths", base,
-                                            base.put(bl=bl, el=el, d=d)))
+            cases += [read_whole("header " + name, base, base.put_all([(name, value)]), number)
+                      for value, number in values]
+        cases += [read_whole("header d", base, base.put(d=d), number)
+                  for d, number in denominator_values(base.value("el") + 8)]
+        cases += [read_whole("header depths", base, base.put(bl=bl, el=el, d=d), number)
+                  for bl, el, d, number in depth_values(base.value("d"))]
         cases += [read_whole("header luminance", base,
-                             base.put(lum_max=high, lum_min=low))
-                  for high, low in LUMINANCES]
+                             base.put(lum_max=high, lum_min=low), number)
+                  for high, low, number in luminances()]
     return cases
 
 
+def distances(base):
+    """(A, D0, D1, D2, answer): swapped, equal, zero, wrapping; where the sections only
+    move, what is read in them decides."""
+    A, D0, D1, D2 = (base.value(name) for name in ("A", "D0", "D1", "D2"))
+    H, over = HEADER_BYTES, 65536
+    wrong = [
+        (A, D1, D0, D2), (D1 + H, D1, D0, D2), (A, D0, D2, D1), (A, D2, D1, D0),
+        (D2 + H, D2, D1, D0), (A, D0, D0, D2), (A, D0, D1, D1), (A, D0, D2, D2),
+        (A, D0, D0, D0), (A, D0, D1, 0), (A, D0, 0, 0), (H, 0, 0, 0),
+        (0, 0, 0, 0), (A - 1, D0, D1, D2), (A + 1, D0, D1, D2), (D0, D0, D1, D2),
+        (0, D0, D1, D2), (A, D0 - 1, D1, D2), (A, D0 + 1, D1, D2)]
+    moved = [(A - 1, D0 - 1, D1, D2), (A + 1, D0 + 1, D1, D2), (A + 2, D0 + 2, D1, D2)]
+    wrapping = [(10, 10 - H + over, D1, D2), (H - 1, over - 1, D1, D2), (0, over - H, D1, D2)]
+    far = [(over - 1, over - 1 - H, D1, D2)]
+    equal = [(over - 1, over - 1, over - 1, over - 1)]
+    other = [(3 + H, 3, 2, 1), (A, D0, 2, 1), (A, D0, D0 - 1, D0 - 2), (A, D0, D0 - 1, 1),
+             (A, D0, D1, 1), (A, D0, D1 - 1, D2), (A, D0, D1 + 1, D2), (A, D0, D1, D2 - 1),
+             (A, D0, D1, D2 + 1)]
+    return [(*found, number) for group, number in (
+        (wrong, 2), (moved, None), (wrapping, 2), (far, 1), (equal, 2), (other, None))
+            for found in group]
+
+
 def trailer_cases(base, ignoring):
-    """Distances swapped, equal, zero, wrapping; versions; the last field."""
-    distances = (
-        (126, 68, 102, 34), (92, 68, 102, 34), (126, 102, 34, 68), (126, 34, 68, 102),
-        (58, 34, 68, 102), (126, 102, 102, 34), (126, 102, 68, 68), (126, 102, 34, 34),
-        (126, 102, 102, 102), (126, 102, 68, 0), (126, 102, 0, 0), (24, 0, 0, 0),
-        (0, 0, 0, 0), (125, 102, 68, 34), (127, 102, 68, 34), (102, 102, 68, 34),
-        (0, 102, 68, 34), (126, 101, 68, 34), (126, 103, 68, 34), (125, 101, 68, 34),
-        (127, 103, 68, 34), (128, 104, 68, 34), (10, 65522, 68, 34),
-        (23, 65535, 68, 34), (0, 65512, 68, 34), (65535, 65511, 68, 34),
-        (65535, 65535, 65535, 65535), (27, 3, 2, 1), (126, 102, 2, 1),
-        (126, 102, 101, 100), (126, 102, 101, 1), (126, 102, 68, 1),
-        (126, 102, 67, 34), (126, 102, 69, 34), (126, 102, 68, 33), (126, 102, 68, 35))
+    """Distances; versions; the last field."""
+    versions = [*range(limits.VERSIONS[-1] + 3), 255, 256, 256 + limits.VERSIONS[-1], 65535]
     cases = []
     for one in (base, ignoring):
-        for A, D0, D1, D2 in distances:
-            cases.append(read_whole("trailer distances", one,
-                                    one.put(A=A, D0=D0, D1=D1, D2=D2)))
-        for version in (0, 1, 2, 3, 255, 256, 257, 65535):
-            cases.append(read_whole("trailer version", one, one.put(version=version)))
-        for last in (0, 1, 255, 256, 65535):
-            cases.append(read_whole("trailer last field", one, one.put(last=last)))
+        cases += [read_whole("trailer distances", one, one.put(A=A, D0=D0, D1=D1, D2=D2), number)
+                  for A, D0, D1, D2, number in distances(one)]
+        cases += [read_whole("trailer version", one, one.put(version=version),
+                             0 if version in limits.VERSIONS else 2) for version in versions]
+        cases += [read_whole("trailer last field", one, one.put(last=last),
+                             0 if last in limits.ZERO else 2)
+                  for last in (0, 1, 255, 256, 65535)]
     return cases
 
 
 # Sections -------------------------------------------------------------------
 
 def edge_values(name, depth, d):
-    """A field's ends and the numbers beyond them."""
+    """(value, answer): a field's ends and the numbers beyond them.
+
+    Another n or order in range moves the fields after it: what they hold decides.
+    """
     if name.endswith("_n"):
-        return (0, 1, 15, 16, 17, 255)
-    if name.endswith("_idc") or name.endswith("_order"):
-        return (0, 1, 2, 255)
+        most = limits.N[-1]
+        return (0, None), (1, None), (most, None), (most + 1, 5), (most + 2, 5), (255, 5)
+    if name.endswith("_idc"):
+        return (0, 0), (limits.MMR, 5 if name.startswith("s0") else 6), (2, 5), (255, 5)
+    if name.endswith("_order"):
+        most = limits.ORDERS[-1]
+        return (0, None), (most, None), (most + 1, 5), (255, 5)
     if "_pivot" in name or name.endswith("_offset"):
-        return (0, (1 << depth) - 1, 1 << depth, 65535)
+        top = limits.samples(depth)[-1]
+        return (0, 0), (top, 0), (top + 1, 5), (65535, 5)
     if name.endswith("_fraction"):
-        return (0, (1 << d) - 1, 1 << d, (1 << 32) - 1)
+        top, largest = limits.fractions(d)[-1], (1 << 32) - 1
+        return (0, 0), (top, 0), (top + 1, 5), (largest, 0 if largest == top else 5)
     if "_c" in name:
-        return (-65, -64, -1, 0, 63, 64, 127, -128)
-    return (0, 1, 2, 255)
+        low, high = limits.COEF_INTS[0], limits.COEF_INTS[-1]
+        return ((low - 1, 5), (low, 0), (-1, 0), (0, 0), (high, 0), (high + 1, 5), (127, 5),
+                (-128, 5))
+    most = limits.NLQ_INTS[-1]
+    return (0, 0), (most, 0), (most + 1, 5), (255, 5)
 
 
 def names_of_sections(base):
@@ -259,53 +342,64 @@ def section_edge_cases(bases):
     for base in bases:
         depth, d = base.value("el") + 8, base.value("d")
         for name in names_of_sections(base):
-            for value in edge_values(name, depth, d):
+            for value, number in edge_values(name, depth, d):
                 if value < 1 << 32:
                     cases.append(read_whole("section field", base,
-                                            base.put_all([(name, value)])))
+                                            base.put_all([(name, value)]), number))
     return cases
 
 
 def shape_cases(bases):
-    """n and the order too large or too small for a section of zeros."""
+    """n and the order too large or too small for a section of zeros.
+
+    Where the orders are 0 too, nothing but the length can then be wrong.
+    """
+    most = limits.N[-1]
     cases = []
     for base in bases:
-        cases.append(read_whole("section shape", base))
+        shape = 3 if base.value("s0_p0_order") == 0 else None
+        cases.append(read_whole("section shape", base, number=0))
         for cmp in range(3):
-            for name, values in (("n", (0, 1, 2, 3, 14, 15, 16)),
-                                 ("p0_order", (0, 1, 2))):
+            for name, values, allowed in (
+                    ("n", (0, 1, 2, 3, most - 1, most, most + 1), limits.N),
+                    ("p0_order", (0, 1, limits.ORDERS[-1] + 1), limits.ORDERS)):
                 for value in values:
                     field = "s%d_%s" % (cmp, name)
                     if value != base.value(field):
                         cases.append(read_whole("section shape", base,
-                                                base.put_all([(field, value)])))
+                                                base.put_all([(field, value)]),
+                                                shape if value in allowed else 5))
     return cases
 
 
 def denominator_cases(base):
     """Fractions 2^d - 1 and 2^d for each d."""
     cases = []
-    for d in range(15, 33):
+    for d in denominators(base.value("el") + 8):
         for name in ("s0_p0_c1_fraction", "s1_max_fraction", "s2_threshold_fraction"):
-            for value in ((1 << d) - 1, 1 << d):
+            for value, number in ((limits.fractions(d)[-1], 0), (limits.fractions(d).stop, 5)):
                 if value < 1 << 32 and (d % 4 == 3 or name[1] == str(d % 3)):
                     cases.append(read_whole("fraction and d", base,
-                                            base.put_all([("d", d), (name, value)])))
+                                            base.put_all([("d", d), (name, value)]), number))
     return cases
 
 
 def longest_cases(base):
-    """The largest section: its last pieces and pivots, n = 16."""
-    top = (1 << (base.value("bl") + 8)) - 1
-    cases = [read_whole("longest", base)]
+    """The largest section: its last pieces and pivots, n one too large."""
+    top = limits.samples(base.value("bl") + 8)[-1]
+    n = limits.N[-1]
+    pivot, piece = "pivot%d" % (limits.PIVOT_PLACES - 1), "p%d_" % n
+    low, high = limits.COEF_INTS[0], limits.COEF_INTS[-1]
+    cases = [read_whole("longest", base, number=0)]
     for cmp in range(3):
-        edits = ([("n", 16)], [("n", 14)], [("pivot16", top + 1)], [("pivot16", top)],
-                 [("p15_idc", 1)], [("p15_idc", 2)], [("p15_order", 2)],
-                 [("p15_order", 0)], [("p15_c2_int", 64)], [("p15_c2_int", -65)],
-                 [("offset", top + 1)], [("threshold_int", 2)])
-        for pairs in edits:
-            pairs = [("s%d_%s" % (cmp, name), value) for name, value in pairs]
-            cases.append(read_whole("longest", base, base.put_all(pairs)))
+        for name, value, number in (
+                ("n", n + 1, 5), ("n", n - 1, None), (pivot, top + 1, 5), (pivot, top, 0),
+                (piece + "idc", limits.MMR, 6 if cmp else 5), (piece + "idc", 2, 5),
+                (piece + "order", limits.ORDERS[-1] + 1, 5), (piece + "order", 0, None),
+                (piece + "c2_int", high + 1, 5), (piece + "c2_int", low - 1, 5),
+                ("offset", top + 1, 5), ("threshold_int", limits.NLQ_INTS[-1] + 1, 5)):
+            edits = base.put_all([("s%d_%s" % (cmp, name), value)])
+            cases.append(read_whole("longest", base, edits, number))
     return cases
 
 
@@ -327,17 +421,17 @@ def cut_cases(base, tails):
     depth, d = base.value("el") + 8, base.value("d")
     for cmp in range(3):
         start = base.fields["s%d_n" % cmp].offset
-        for size in range(1, 34):
+        for size in range(1, SHORTEST_SECTION):
             cut, edits = cut_section(base, cmp, size, tails)
-            cases.append(read_whole("section cut", cut, edits))
+            cases.append(read_whole("section cut", cut, edits, 3))
         for name in names_of_sections(base):
             if not name.startswith("s%d" % cmp):
                 continue
             field = base.fields[name]
-            bad = base.put_all([(name, edge_values(name, depth, d)[-1])])
+            bad = base.put_all([(name, edge_values(name, depth, d)[-1][0])])
             end = field.offset + field.size - start
             for size in (end, end - 1):
-                if 0 < size < 34:
+                if 0 < size < SHORTEST_SECTION:
                     cut, edits = cut_section(base, cmp, size, tails)
                     cases.append(read_whole("bad field and cut", cut,
                                             edits + within(bad, start + size, cut)))
@@ -370,20 +464,22 @@ def length_cases(bases, base):
     """Bytes left over and one byte missing, alone and with other faults."""
     changes = (lambda s: s + b"\0", lambda s: s + b"\1\2", lambda s: s[:-1],
                lambda s: s + bytes(400))
+    n, integer, mmr = limits.N[-1] + 1, limits.NLQ_INTS[-1] + 1, limits.MMR
+    faults = (("profile", 2), ("s0_threshold_int", integer), ("s0_n", n),
+              ("s1_n", n), ("s1_p0_idc", mmr), ("s1_threshold_int", integer),
+              ("s2_n", n), ("s2_p0_idc", mmr), ("s2_threshold_int", integer))
     cases = []
     for cmp in range(3):
         for change in changes:
             data = one_bad_length(base, cmp, change)
             changed = bases.add(data)
             grown = len(data) - len(base.data)
-            cases.append(read_whole("section length", changed))
-            for name, value in (("profile", 2), ("s0_threshold_int", 2), ("s0_n", 16),
-                                ("s1_n", 16), ("s1_p0_idc", 1), ("s1_threshold_int", 2),
-                                ("s2_n", 16), ("s2_p0_idc", 1), ("s2_threshold_int", 2)):
+            cases.append(read_whole("section length", changed, number=3))
+            for name, value in faults:
                 moved = grown if name[1] > str(cmp) and name[0] == "s" else 0
                 edits = [(offset + moved, byte)
                          for offset, byte in base.put_all([(name, value)])]
-                if all(offset < len(data) - 12 for offset, _ in edits):
+                if all(offset < len(data) - TRAILER_BYTES for offset, _ in edits):
                     cases.append(read_whole("section length and fault", changed, edits))
             cases.append(Case("section length and fault", changed.number, 1,
                               len(data), []))
@@ -393,10 +489,11 @@ def length_cases(bases, base):
 def tiny_cases(bases, base):
     """Sections of one to three bytes under a good header."""
     header = split(base)[0]
+    most, beyond = bytes([limits.N[-1]]), bytes([limits.N[-1] + 1])
     cases = []
-    for sections in ((b"\0", b"\0", b"\0"), (b"\x10", b"\0", b"\0"),
+    for sections in ((b"\0", b"\0", b"\0"), (beyond, b"\0", b"\0"),
                      (b"\0\0", b"\0", b"\0"), (b"\0\4\0", b"\0", b"\0"),
-                     (b"\x0f\0\0", b"\x10", b"\x10")):
+                     (most + b"\0\0", beyond, beyond)):
         tiny = bases.add(block.assemble(header, sections))
         cases.append(read_whole("tiny section", tiny))
         cases.append(read_whole("tiny section", tiny, [(0, 2)]))
@@ -405,31 +502,56 @@ def tiny_cases(bases, base):
 
 # Order of the answers -------------------------------------------------------
 
-FAULTS = (
-    ("version", 2), ("last", 1), ("A", 127), ("D2", 0), ("profile", 2), ("d", 33),
-    ("el", 0), ("half_width", 2049), ("zero20", 1), ("D1", 69), ("D2", 35), ("D1", 67),
-    ("s0_n", 16), ("s0_pivot1", 1024), ("s0_p0_idc", 1), ("s0_p0_order", 2),
-    ("s0_p0_c1_fraction", 32768), ("s0_threshold_int", 2),
-    ("s1_n", 16), ("s1_pivot0", 1024), ("s1_p0_idc", 1), ("s1_p0_c0_int", 64),
-    ("s1_slope_fraction", 32768),
-    ("s2_n", 16), ("s2_n", 1), ("s2_pivot1", 65535), ("s2_p0_idc", 1),
-    ("s2_p0_idc", 2), ("s2_p0_order", 1), ("s2_p0_order", 255), ("s2_offset", 1024),
-    ("s2_threshold_fraction", 1 << 31))
+Fault = namedtuple("Fault", "name value number")
+
+
+def faults(base):
+    """What one field makes wrong with the base block, and the number that it shows."""
+    depth, d = base.value("el") + 8, base.value("d")
+    n, integer = limits.N[-1] + 1, limits.NLQ_INTS[-1] + 1
+    order, coefficient = limits.ORDERS[-1] + 1, limits.COEF_INTS[-1] + 1
+    sample, fraction = limits.samples(depth)[-1] + 1, limits.fractions(d)[-1] + 1
+    A, D1, D2 = (base.value(name) for name in ("A", "D1", "D2"))
+    found = (
+        ("version", limits.VERSIONS[-1] + 1, 2), ("last", 1, 2), ("A", A + 1, 2), ("D2", 0, 2),
+        ("profile", 2, 4), ("d", denominators(depth)[-1] + 1, 4), ("el", 0, 4),
+        ("half_width", limits.HALF_WIDTHS[-1] + 1, 4), ("zero20", 1, 4),
+        ("D1", D1 + 1, 3), ("D2", D2 + 1, 3), ("D1", D1 - 1, 3),
+        ("s0_n", n, 5), ("s0_pivot1", sample, 5), ("s0_p0_idc", limits.MMR, 5),
+        ("s0_p0_order", order, 5), ("s0_p0_c1_fraction", fraction, 5),
+        ("s0_threshold_int", integer, 5),
+        ("s1_n", n, 5), ("s1_pivot0", sample, 5), ("s1_p0_idc", limits.MMR, 6),
+        ("s1_p0_c0_int", coefficient, 5), ("s1_slope_fraction", fraction, 5),
+        ("s2_n", n, 5), ("s2_n", 1, 5), ("s2_pivot1", 65535, 5), ("s2_p0_idc", limits.MMR, 6),
+        ("s2_p0_idc", 2, 5), ("s2_p0_order", 1, 5), ("s2_p0_order", 255, 5),
+        ("s2_offset", sample, 5), ("s2_threshold_fraction", 1 << 31, 5))
+    return [Fault(*fault) for fault in found]
+
+
+def first_met(first, second):
+    """What two faults show together: 2, then 4; inside the sections the place decides."""
+    for number in (2, 4):
+        if number in (first.number, second.number):
+            return number
+    return None
 
 
 def order_cases(base):
     """Every two faults together, and every fault with A too large."""
+    size = len(base.data)
     cases = []
-    for i, first in enumerate(FAULTS):
-        edits = base.put_all([first])
-        cases.append(read_whole("one fault", base, edits))
-        cases.append(Case("fault, A too large", base.number, 1, len(base.data), edits))
-        cases.append(Case("fault, under 12 bytes", base.number, len(base.data) - 11,
-                          len(base.data), edits))
-        for second in FAULTS[i + 1:]:
-            if second[0] != first[0]:
+    for i, first in enumerate(faults(base)):
+        edits = base.put_all([first[:2]])
+        cases.append(read_whole("one fault", base, edits, first.number))
+        cases.append(read_part("fault, A too large", base, 1, size, edits,
+                               2 if first.number == 2 else 1))
+        cases.append(read_part("fault, under 12 bytes", base, size + 1 - TRAILER_BYTES, size,
+                               edits, 1))
+        for second in faults(base)[i + 1:]:
+            if second.name != first.name:
                 cases.append(read_whole("two faults", base,
-                                        base.put_all([first, second])))
+                                        base.put_all([first[:2], second[:2]]),
+                                        first_met(first, second)))
     return cases
 
 
@@ -461,14 +583,21 @@ def zero_cases(bases):
     cases = []
     for byte in (0, 1, 255):
         base = bases.add(bytes([byte]) * 40)
-        cases += [Case("equal bytes", base.number, 0, stop, [])
-                  for stop in (0, 1, 10, 11, 12, 13, 24, 40)]
+        cases += [read_part("equal bytes", base, 0, stop, (), 1 if stop < TRAILER_BYTES else 2)
+                  for stop in (0, 1, *range(TRAILER_BYTES - 2, TRAILER_BYTES + 2), HEADER_BYTES,
+                               40)]
     return cases
 
 
 # Random damage ----------------------------------------------------------------
 
-NEAR_VALUES = (0, 1, 2, 3, 4, 5, 15, 16, 32, 33, 63, 64, 127, 128, 191, 192, 255)
+def ends(allowed):
+    """The last value and those beyond both ends, as bytes."""
+    return {value % 256 for value in (allowed[0], allowed[0] - 1, allowed[-1], allowed[-1] + 1)}
+
+
+NEAR_VALUES = sorted({*range(6), 127, 128} | ends(limits.N) | ends(limits.COEF_INTS)
+                     | {denominators(DEPTHS[0])[-1], denominators(DEPTHS[0])[-1] + 1})
 
 
 def random_byte(old, generator):
@@ -517,24 +646,25 @@ def all_cases():
     """(the base blocks' bytes, the cases)."""
     bases = Bases()
     generator = Generator(201)
-    short_10 = bases.add_plan(small_plan(10, 15))
-    short_8 = bases.add_plan(small_plan(8, 13, hdr_bit_depth=10))
-    second_10 = bases.add_plan(small_plan(10, 32, order=2, flag=1))
-    second_8 = bases.add_plan(small_plan(8, 31, order=2))
+    least_8, least_10, most = denominators(8)[0], denominators(10)[0], denominators(10)[-1]
+    short_10 = bases.add_plan(small_plan(10, least_10))
+    short_8 = bases.add_plan(small_plan(8, least_8, hdr_bit_depth=10))
+    second_10 = bases.add_plan(small_plan(10, most, order=2, flag=1))
+    second_8 = bases.add_plan(small_plan(8, most - 1, order=2))
     middle = bases.add_plan(middle_plan(generator))
-    longest_10 = bases.add_plan(longest_plan(10, 32, generator))
-    longest_8 = bases.add_plan(longest_plan(8, 13, generator))
+    longest_10 = bases.add_plan(longest_plan(10, most, generator))
+    longest_8 = bases.add_plan(longest_plan(8, least_8, generator))
     other = block.write(small_plan(8, 20, order=2))
-    after_other = bases.add_plan(small_plan(10, 15), other)
+    after_other = bases.add_plan(small_plan(10, least_10), other)
     noise = bytes(generator.below(256) for _ in range(2000))
-    after_noise = bases.add_plan(small_plan(8, 13), noise)
+    after_noise = bases.add_plan(small_plan(8, least_8), noise)
     zeros = [bases.add_plan(zero_plan(pieces, order))
-             for pieces, order in ((1, 1), (1, 2), (3, 1), (16, 2))]
+             for pieces, order in ((1, 1), (1, 2), (3, 1), (limits.pieces(limits.N[-1]), 2))]
     header, *sections = split(short_10)
     tails = {size: bases.add(block.assemble(header, sections[:2] + [sections[2][:size]]))
-             for size in range(1, 34)}
+             for size in range(1, SHORTEST_SECTION)}
 
-    cases = [read_whole("valid", base) for base in bases.all[:5]]
+    cases = [read_whole("valid", base, number=0) for base in bases.all[:5]]
     cases += header_cases([short_10, short_8])
     cases += trailer_cases(short_10, after_other)
     cases += section_edge_cases([short_10, short_8, second_10, second_8])
@@ -552,5 +682,5 @@ def all_cases():
     cases += ignored_cases(after_noise, len(noise), 250)
     cases += zero_cases(bases)
     cases += damage_cases([short_10, short_10, short_8, short_8, middle, second_8,
-                           after_other, tails[33]], Generator(202), 3000)
+                           after_other, tails[SHORTEST_SECTION - 1]], Generator(202), 3000)
     return [base.data for base in bases.all], cases

@@ -10,9 +10,7 @@ Lines marked "house" follow the house rules where they decide for themselves.
 
 from dataclasses import dataclass, field
 
-PIVOT_PLACES = 17   # num_pivots_minus2 is at most 15, so at most 17 pivots
-PIECE_PLACES = 17   # at most 16 are used; the vectors number 17
-COEF_PLACES = 3     # poly_order_minus1 is at most 1
+from limits import COEF_PLACES, PIECE_PLACES, PIVOT_PLACES
 
 
 def _zeros(*sizes):

@@ -24,6 +24,10 @@ class Generator:
         """Both ends included."""
         return low + self.below(high - low + 1)
 
+    def among(self, allowed):
+        """One value of a range."""
+        return self.between(allowed[0], allowed[-1])
+
     def choice(self, items):
         return items[self.below(len(items))]
 

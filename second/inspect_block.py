@@ -9,6 +9,7 @@ import sys
 
 import block
 import composer
+import limits
 
 RULES = {
     1: "the block is cut off: the file has to end where the block ends",
@@ -60,48 +61,67 @@ def fields(plan):
         n = plan.num_pivots_minus2[cmp]
         yield "  num_pivots_minus2 %d" % n
         yield "  pivot_value " + " ".join("%d" % v for v in pivots[cmp])
-        for piece in range(n + 1):
+        for piece in range(limits.pieces(n)):
             yield "  piece %d" % piece
             yield "    mapping_idc %d" % plan.mapping_idc[cmp][piece]
             order = plan.poly_order_minus1[cmp][piece]
             yield "    poly_order_minus1 %d" % order
-            for i in range(order + 2):
+            for i in range(limits.coefs(order)):
                 yield "    fp_poly_coef[%d] %s" % (i, fraction(plan.fp_poly_coef[cmp][piece][i], d))
         yield "  nlq_offset %d" % plan.nlq_offset[cmp]
         for name in ("fp_hdr_in_max", "fp_linear_deadzone_slope", "fp_linear_deadzone_threshold"):
             yield "  %s %s" % (name, fraction(getattr(plan, name)[cmp], d))
 
 
+def listed(allowed):
+    """1, 3 or 4"""
+    words = [str(value) for value in allowed]
+    return " or ".join([", ".join(words[:-1]), words[-1]] if words[1:] else words)
+
+
+def spanned(allowed):
+    return "%d to %d" % (allowed[0], allowed[-1])
+
+
+def below(allowed):
+    return "less than %d" % allowed.stop
+
+
+def as_base(allowed):
+    return listed(allowed) + ", as BL_bit_depth_minus8 is"
+
+
 def header_fault(head):
     """The first field that is outside its column: the depths before the denominator, whose column is made of them."""
     (profile, level, d, bl, el, hdr, flag, zero7, half_width, half_height,
      lum_max, zero14, lum_min, zero20) = struct.unpack(">8B4HII", head)
+    depths = limits.minus8(limits.DEPTHS)
     rows = [
-        (profile in (1, 3, 4), "ccm_profile is %d" % profile, "1, 3 or 4"),
-        (level == 0, "ccm_level is %d" % level, "0"),
-        (bl in (0, 2), "BL_bit_depth_minus8 is %d" % bl, "0 or 2"),
-        (el in (0, 2), "EL_bit_depth_minus8 is %d" % el, "0 or 2"),
-        (bl == el, "EL_bit_depth_minus8 is %d" % el, "%d, as BL_bit_depth_minus8 is" % bl),
-        (el + 13 <= d <= 32, "coefficient_log2_denom is %d" % d, "%d to 32" % (el + 13)),
-        (hdr in (2, 4), "hdr_bit_depth_minus8 is %d" % hdr, "2 or 4"),
-        (flag in (0, 1), "disable_residual_flag is %d" % flag, "0 or 1"),
-        (zero7 == 0, "zero (byte 7) is %d" % zero7, "0"),
-        (1 <= half_width <= 2048, "W/2 is %d" % half_width, "1 to 2048"),
-        (1 <= half_height <= 1152, "H/2 is %d" % half_height, "1 to 1152"),
-        (lum_max <= 10000, "max_display_mastering_luminance is %d" % lum_max, "0 to 10000"),
-        (zero14 == 0, "zero (bytes 14-15) is %d" % zero14, "0"),
-        (lum_min < 10000 * lum_max, "min_display_mastering_luminance is %d" % lum_min, "less than %d" % (10000 * lum_max)),
-        (zero20 == 0, "zero (bytes 20-23) is %d" % zero20, "0"),
+        ("ccm_profile", profile, limits.PROFILES, listed),
+        ("ccm_level", level, limits.LEVELS, listed),
+        ("BL_bit_depth_minus8", bl, depths, listed),
+        ("EL_bit_depth_minus8", el, depths, listed),
+        ("EL_bit_depth_minus8", el, (bl,), as_base),
+        ("coefficient_log2_denom", d, limits.denominators(el + 8), spanned),
+        ("hdr_bit_depth_minus8", hdr, limits.minus8(limits.HDR_DEPTHS), listed),
+        ("disable_residual_flag", flag, limits.FLAGS, listed),
+        ("zero (byte 7)", zero7, limits.ZERO, listed),
+        ("W/2", half_width, limits.HALF_WIDTHS, spanned),
+        ("H/2", half_height, limits.HALF_HEIGHTS, spanned),
+        ("max_display_mastering_luminance", lum_max, limits.LUMINANCES, spanned),
+        ("zero (bytes 14-15)", zero14, limits.ZERO, listed),
+        ("min_display_mastering_luminance", lum_min, limits.darkest(lum_max), below),
+        ("zero (bytes 20-23)", zero20, limits.ZERO, listed),
     ]
-    for holds, found, allowed in rows:
-        if not holds:
-            return "%s, allowed %s" % (found, allowed)
+    for name, value, allowed, words in rows:
+        if value not in allowed:
+            return "%s is %d, allowed %s" % (name, value, words(allowed))
 
 
 def section_fields(section, cmp, plan):
     """(offset, bytes, name, allowed) of each field in order, as far as the section's own numbers say where they are."""
-    sample = "less than %d" % (1 << plan.BL_bit_depth)
-    fraction = "less than %d" % (1 << plan.coefficient_log2_denom)
+    sample = below(limits.samples(plan.BL_bit_depth))
+    fraction = below(limits.fractions(plan.coefficient_log2_denom))
     at = 0
 
     def field(size, name, allowed, *indices):
@@ -110,19 +130,19 @@ def section_fields(section, cmp, plan):
         return at - size, size, name + "".join("[%d]" % i for i in (cmp,) + indices), allowed
 
     n = section[0]
-    yield field(1, "num_pivots_minus2", "0 to 15")
-    for i in range(n + 2):
+    yield field(1, "num_pivots_minus2", spanned(limits.N))
+    for i in range(limits.pivots(n)):
         yield field(2, "pred_pivot_value", sample, i)
-    for piece in range(n + 1):
-        yield field(1, "mapping_idc", "0", piece)
+    for piece in range(limits.pieces(n)):
+        yield field(1, "mapping_idc", listed(limits.MAPPING), piece)
         order = section[at]
-        yield field(1, "poly_order_minus1", "0 to 1", piece)
-        for i in range(order + 2):
-            yield field(1, "poly_coef_int", "-64 to 63", piece, i)
+        yield field(1, "poly_order_minus1", spanned(limits.ORDERS), piece)
+        for i in range(limits.coefs(order)):
+            yield field(1, "poly_coef_int", spanned(limits.COEF_INTS), piece, i)
             yield field(4, "poly_coef", fraction, piece, i)
     yield field(2, "nlq_offset", sample)
     for name in ("hdr_in_max", "linear_deadzone_slope", "linear_deadzone_threshold"):
-        yield field(1, name + "_int", "0 to 1")
+        yield field(1, name + "_int", spanned(limits.NLQ_INTS))
         yield field(4, name, fraction)
 
 
@@ -135,15 +155,17 @@ def section_fault(section, cmp, plan, place):
 
 def fault(number, data):
     """Where the failure was met (None for rule 1), and what was found there and what is allowed."""
-    t = len(data) - block.TRAILER_BYTES
+    t = len(data) - limits.TRAILER_BYTES
     if t < 0:
-        return None, "%d bytes, allowed 12 or more" % len(data)
+        return None, "%d bytes, allowed %d or more" % (len(data), limits.TRAILER_BYTES)
     A, D0, D1, D2, version, zero = struct.unpack_from(">6H", data, t)
     if number == 1:
         return None, "A is %d, allowed at most %d" % (A, t)
     if number == 2:
         return t, ("A is %d, D0 is %d, D1 is %d, D2 is %d, version is %d, zero is %d, "
-                   "allowed A = D0 + 24, D0 > D1 > D2 > 0, version 1, zero 0" % (A, D0, D1, D2, version, zero))
+                   "allowed A = D0 + %d, D0 > D1 > D2 > 0, version %s, zero %s"
+                   % (A, D0, D1, D2, version, zero,
+                      limits.HEADER_BYTES, listed(limits.VERSIONS), listed(limits.ZERO)))
     if number == 4:
         return t - A, header_fault(data[t - A:t - D0])
     cmp = len(Noted.sections) - 1

@@ -1,8 +1,9 @@
 """Rules 7 to 11 of the house rules, and a job without tickets and marks."""
 
-from composer import (COEF_PLACES, PIECE_PLACES, PIVOT_PLACES, compose_row_pairs,
-                      enhancement_used, row_pair_samples)
+import limits
 from block import header_in_range
+from composer import compose_row_pairs, enhancement_used, row_pair_samples
+from limits import COEF_PLACES, PIECE_PLACES, PIVOT_PLACES
 
 
 def job(plan, first, count, base, enhancement, output):
@@ -41,30 +42,33 @@ def breaks_rule_7(plan):
 
 def _component_in_range(plan, cmp):
     n = plan.num_pivots_minus2[cmp]
-    if not 0 <= n <= 15:
+    if n not in limits.N:
         return False
     return (_pivots_in_range(plan, cmp, n)
-            and all(_piece_in_range(plan, cmp, piece) for piece in range(n + 1))
+            and all(_piece_in_range(plan, cmp, piece)
+                    for piece in range(limits.pieces(n)))
             and all(_piece_is_zero(plan, cmp, piece)
-                    for piece in range(n + 1, PIECE_PLACES))
+                    for piece in range(limits.pieces(n), PIECE_PLACES))
             and _quantization_in_range(plan, cmp))
 
 
 def _pivots_in_range(plan, cmp, n):
     pred_pivot_value = plan.pred_pivot_value[cmp]
-    return (all(0 <= pred_pivot_value[i] < 1 << plan.BL_bit_depth
-                for i in range(n + 2))
-            and all(pred_pivot_value[i] == 0 for i in range(n + 2, PIVOT_PLACES)))
+    used = limits.pivots(n)
+    return (all(pred_pivot_value[i] in limits.samples(plan.BL_bit_depth)
+                for i in range(used))
+            and all(pred_pivot_value[i] == 0 for i in range(used, PIVOT_PLACES)))
 
 
 def _piece_in_range(plan, cmp, piece):
-    d = plan.coefficient_log2_denom
+    allowed = limits.coefficients(plan.coefficient_log2_denom)
     order = plan.poly_order_minus1[cmp][piece]
     coef = plan.fp_poly_coef[cmp][piece]
-    if plan.mapping_idc[cmp][piece] != 0 or order not in (0, 1):
+    if plan.mapping_idc[cmp][piece] not in limits.MAPPING or order not in limits.ORDERS:
         return False
-    return (all(-64 << d <= coef[i] < 64 << d for i in range(order + 2))
-            and all(coef[i] == 0 for i in range(order + 2, COEF_PLACES)))
+    used = limits.coefs(order)
+    return (all(coef[i] in allowed for i in range(used))
+            and all(coef[i] == 0 for i in range(used, COEF_PLACES)))
 
 
 def _piece_is_zero(plan, cmp, piece):
@@ -74,11 +78,11 @@ def _piece_is_zero(plan, cmp, piece):
 
 
 def _quantization_in_range(plan, cmp):
-    d = plan.coefficient_log2_denom
-    return (0 <= plan.nlq_offset[cmp] < 1 << plan.EL_bit_depth
-            and 0 <= plan.fp_hdr_in_max[cmp] < 2 << d
-            and 0 <= plan.fp_linear_deadzone_slope[cmp] < 2 << d
-            and 0 <= plan.fp_linear_deadzone_threshold[cmp] < 2 << d)
+    allowed = limits.nlq_numbers(plan.coefficient_log2_denom)
+    return (plan.nlq_offset[cmp] in limits.samples(plan.EL_bit_depth)
+            and plan.fp_hdr_in_max[cmp] in allowed
+            and plan.fp_linear_deadzone_slope[cmp] in allowed
+            and plan.fp_linear_deadzone_threshold[cmp] in allowed)
 
 
 def breaks_rule_8(open_ticket, ticket):
@@ -109,8 +113,8 @@ def breaks_rule_11(plan, first, count, base, enhancement):
     used = enhancement_used(plan, enhancement)
     for k in range(first, first + count):
         for _, at in row_pair_samples(plan, k):
-            if base[at] >= 1 << plan.BL_bit_depth:
+            if base[at] not in limits.samples(plan.BL_bit_depth):
                 return True
-            if used and enhancement[at] >= 1 << plan.EL_bit_depth:
+            if used and enhancement[at] not in limits.samples(plan.EL_bit_depth):
                 return True
     return False

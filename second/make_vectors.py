@@ -20,6 +20,8 @@ import inspect_block
 import inspect_cases
 import night_cases
 import picture
+import places
+import plan_cases
 import sample_cases
 
 
@@ -67,6 +69,20 @@ def night_stream(nights):
     return bytes(out)
 
 
+def plan_stream(groups):
+    """stdin of plan_vectors."""
+    out = bytearray()
+    for plan, cases in groups:
+        data = block.write(plan)
+        out += struct.pack(">H", len(data)) + data + struct.pack(">H", len(cases))
+        for case in cases:
+            out.append(len(case.edits))
+            for place, value in case.edits:
+                out += struct.pack(">Hq" if places.is_signed(place) else ">HQ",
+                                   places.NUMBERS[place], value)
+    return bytes(out)
+
+
 def text(lines):
     return "".join(line + "\n" for line in lines).encode("ascii")
 
@@ -85,10 +101,10 @@ def inspect_files(outdir):
     good = picture.contents(os.path.join(outdir, "compose_file", "data", "block"))
     files, lines = {}, []
     blocks = inspect_cases.all_blocks(good)
-    for name, data in blocks:
-        files[os.path.join("inspect", "data", name)] = data
-        lines += inspect_block.inspect(name, data)
-    files[os.path.join("inspect", "args")] = text([name for name, _ in blocks])
+    for shown in blocks:
+        files[os.path.join("inspect", "data", shown.name)] = shown.data
+        lines += inspect_block.inspect(shown.name, shown.data)
+    files[os.path.join("inspect", "args")] = text([shown.name for shown in blocks])
     files[os.path.join("inspect", "stdout")] = text(lines)
     return files
 
@@ -104,6 +120,9 @@ def make(outdir):
     nights = night_cases.all_nights()
     night_stdin = night_stream(nights)
     night_lines = answers.night_answers(night_stdin)
+    groups = plan_cases.all_groups()
+    plan_stdin = plan_stream(groups)
+    plan_lines = answers.plan_answers(plan_stdin)
     files = {
         os.path.join("sample_vectors", "stdin"): sample_stdin,
         os.path.join("sample_vectors", "stdout"): text(sample_lines),
@@ -111,10 +130,14 @@ def make(outdir):
         os.path.join("block_vectors", "stdout"): text(block_lines),
         os.path.join("night_vectors", "stdin"): night_stdin,
         os.path.join("night_vectors", "stdout"): text(night_lines),
+        os.path.join("plan_vectors", "stdin"): plan_stdin,
+        os.path.join("plan_vectors", "stdout"): text(plan_lines),
         **example_files(outdir), **inspect_files(outdir)}
     summary = (sample_summary(samples, sample_lines)
                + table("block_vectors", reads, block_lines)
-               + night_summary(nights, night_lines))
+               + night_summary(nights, night_lines)
+               + table("plan_vectors", [case for group in groups for case in group.cases],
+                       plan_lines))
     return files, summary
 
 
@@ -154,6 +177,8 @@ def night_answer_of(line):
 
 
 def answer_of(line):
+    if line == "7":
+        return "refused 7"
     return line if line.startswith("refused") else "accepted"
 
 

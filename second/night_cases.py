@@ -12,8 +12,9 @@ from itertools import combinations
 from answers import NO_RUN
 from composer import row_pair_samples
 from generator import Generator
-from sample_cases import (DEPTHS, make_plan, plain_sections, random_picture, random_plan,
-                          random_run, replaced)
+from limits import DEPTHS, HDR_DEPTHS, denominators
+from sample_cases import (make_plan, plain_sections, random_picture, random_plan, random_run,
+                          replaced)
 
 Night = namedtuple("Night", "kind plan runs marks output_size ticket opening jobs")
 Job = namedtuple("Job", "plan open_ticket ticket first count base enhancement")
@@ -145,8 +146,9 @@ def plain_stock(depth, d, hdr_bit_depth, width, height, generator, flag=0):
 def worked_nights(generator):
     """House rules: H = 4, jobs (0,1), (0,1), (1,1) leave 1, 1, 0; (2,1) is 10."""
     nights = []
-    for depth, d, hdr_bit_depth, width, flag in ((10, 15, 12, 2, 0), (8, 13, 10, 4, 1),
-                                                 (10, 32, 10, 16, 1), (8, 21, 12, 8, 0)):
+    for depth, d, hdr_bit_depth, width, flag in (
+            (10, denominators(10)[0], 12, 2, 0), (8, denominators(8)[0], 10, 4, 1),
+            (10, denominators(10)[-1], 10, 16, 1), (8, 21, 12, 8, 0)):
         stock = plain_stock(depth, d, hdr_bit_depth, width, 4, generator, flag)
         nights.append(night("worked case", stock, [
             stock.job(0, 1), stock.job(0, 1), stock.job(1, 1), stock.job(2, 1)]))
@@ -170,7 +172,7 @@ def replay_nights(generator):
     )
     nights = []
     for i, (width, height, rows) in enumerate(sequences):
-        stock = plain_stock(DEPTHS[i % 2], 22, (10, 12)[i // 2 % 2], width, height,
+        stock = plain_stock(DEPTHS[i % 2], 22, HDR_DEPTHS[i // 2 % 2], width, height,
                             generator)
         nights.append(night("replayed, overlapping", stock,
                             [stock.job(first, count) for first, count in rows]))
@@ -264,7 +266,7 @@ def order_nights(generator):
 def outside_nights(generator):
     """Bad samples and the largest good ones: outside its row pairs none matters."""
     nights = []
-    for depth, d, flag in ((8, 25, 0), (10, 15, 0), (10, 30, 1)):
+    for depth, d, flag in ((8, 25, 0), (10, denominators(10)[0], 0), (10, 30, 1)):
         stock = plain_stock(depth, d, 10, 4, 8, generator, flag)
         inside = [at for k in (1, 2) for _, at in row_pair_samples(stock.plan, k)]
         base, enhancement = (

@@ -9,9 +9,12 @@ or a residual that is off by one changes the answer.
 from collections import namedtuple
 from itertools import product
 
+import jobs
+import limits
 from composer import (Plan, assign_pivot_values, map_sample, residual,
                       row_pair_samples)
 from generator import Generator
+from limits import DEPTHS, HDR_DEPTHS, PIVOT_PLACES, coefficients, denominators, nlq_numbers
 
 Case = namedtuple("Case", "kind plan first count base enhancement")
 
@@ -19,11 +22,9 @@ Case = namedtuple("Case", "kind plan first count base enhancement")
 Section = namedtuple("Section", "pivots pieces nlq")
 Nlq = namedtuple("Nlq", "offset maximum slope threshold")
 
-DEPTHS = (8, 10)
-
 
 def make_plan(depth, d, hdr_bit_depth, width, height, sections, flag=0):
-    plan = Plan(ccm_profile=1, coefficient_log2_denom=d,
+    plan = Plan(ccm_profile=limits.PROFILES[0], coefficient_log2_denom=d,
                 BL_bit_depth_minus8=depth - 8, EL_bit_depth_minus8=depth - 8,
                 hdr_bit_depth_minus8=hdr_bit_depth - 8, disable_residual_flag=flag,
                 half_width=width // 2, half_height=height // 2,
@@ -153,8 +154,8 @@ def residual_cases(generator):
     """
     cases = []
     for depth in DEPTHS:
-        for at, d in enumerate((depth + 5, 22, 32)):
-            end = (2 << d) - 1
+        for at, d in enumerate((denominators(depth)[0], 22, denominators(depth)[-1])):
+            end = nlq_numbers(d)[-1]
             slopes = (0, (1 << (d - 11)) + 3, end)
             thresholds = (0, (1 << (d - 10)) + 1, end)
             maxima = (0, (1 << (d - 2)) + 5, end)
@@ -179,7 +180,7 @@ def odd_shift_cases(generator):
     cases = []
     for depth in DEPTHS:
         for shift in (1, 3, 5):
-            d = depth + 5 + shift
+            d = denominators(depth)[0] + shift
             one = 1 << d
             choices = ((one, 1, 0), (one, 13, 0), (one, 5, 1), (3, one, 0),
                        (5, 1, one), (one, one, one), (one + 1, 7, 3),
@@ -231,9 +232,10 @@ def pinned_picture(kind, plan, planes):
 
 
 def pivot_sets(depth):
-    """Equal pivots, pivots above the sample range, 1 to 16 pieces."""
+    """Equal pivots, pivots above the sample range, one piece to the most."""
     M = 1 << depth
     top = M - 1
+    many = range(PIVOT_PLACES)
     return (
         [0, top],
         [0, M // 2, top],
@@ -246,10 +248,10 @@ def pivot_sets(depth):
         [top, 2 * top],
         [0, M // 2, M, M + top],
         [M // 2, M // 2 + top],
-        [i * top // 16 for i in range(17)],
-        [(i + 1) * top for i in range(17)],
+        [i * top // many[-1] for i in many],
+        [(i + 1) * top for i in many],
         [0, 0, 1, 1, 2, 2, 5, 5, 9, 20, 20, 50, 50, M // 2, top, top, M],
-        [10 + i for i in range(17)],
+        [10 + i for i in many],
         [0, 1],
         [1, 2, 2, 3],
     )
@@ -278,7 +280,8 @@ def pivot_cases(generator):
     for depth in DEPTHS:
         sets = pivot_sets(depth)
         for i in range(len(sets)):
-            d = (depth + 5, 18, 23, 32)[(i + depth // 2) % 4]
+            least, most = denominators(depth)[0], denominators(depth)[-1]
+            d = (least, 18, 23, most)[(i + depth // 2) % 4]
             chosen = [sets[(i + 6 * cmp) % len(sets)] for cmp in range(3)]
             sections = []
             for pivots in chosen:
@@ -310,7 +313,7 @@ def pictures_of(kind, plan, wanted, generator):
 
 def extreme_coefficients(d):
     """Both ends of the range and the numbers just inside, orders 1 and 2."""
-    low, high = -64 << d, (64 << d) - 1
+    low, high = coefficients(d)[0], coefficients(d)[-1]
     pieces = [list(coef) for coef in product((low, low + 1, high - 1, high), repeat=2)]
     for signs in product((0, 1), repeat=3):
         pieces.append([high if sign else low for sign in signs])
@@ -337,9 +340,10 @@ def coefficient_cases(generator):
     cases = []
     for depth in DEPTHS:
         top = (1 << depth) - 1
-        for d in (depth + 5, 32):
+        least, most = denominators(depth)[0], denominators(depth)[-1]
+        for d in (least, most):
             pieces = extreme_coefficients(d)
-            step = 1 if d == 32 else 2
+            step = 1 if d == most else 2
             for i in range(0, len(pieces), step):
                 sections = [Section([0, top], [pieces[(i + 13 * cmp) % len(pieces)]],
                                     vernier(depth, d)) for cmp in range(3)]
@@ -400,7 +404,7 @@ def example_cases():
                     Section(luma[i - 1][0], luma[i - 1][1], still),
                     Section(luma[i - 2][0], luma[i - 2][1], still)]
         base = samples + [luma[i - 1][2][0], luma[i - 2][2][1]]
-        for hdr_bit_depth in (10, 12):
+        for hdr_bit_depth in HDR_DEPTHS:
             for flag in (0, 1):
                 plan = make_plan(10, 15, hdr_bit_depth, 2, 2, sections, flag)
                 cases.append(whole("worked example", plan, base, []))
@@ -425,17 +429,17 @@ def plain_sections(depth, d, generator):
 
 
 def random_run(size, depth, generator):
-    return [generator.below(1 << depth) for _ in range(size)]
+    return [generator.among(limits.samples(depth)) for _ in range(size)]
 
 
 def flag_cases(generator):
     """Flag 0 and 1; enhancement absent, present, or wrong where it is ignored."""
     cases = []
-    for depth, d in ((8, 13), (10, 24)):
+    for depth, d in ((8, denominators(8)[0]), (10, 24)):
         sections = plain_sections(depth, d, generator)
         base = random_run(24, depth, generator)
         right = random_run(24, depth, generator)
-        for hdr_bit_depth in (10, 12):
+        for hdr_bit_depth in HDR_DEPTHS:
             plan = make_plan(depth, d, hdr_bit_depth, 4, 4, sections, 0)
             cases.append(whole("flag 0, enhancement used", plan, base, right))
             cases.append(whole("flag 0, enhancement absent", plan, base, []))
@@ -470,6 +474,16 @@ def part_cases(generator):
     return cases
 
 
+def refused(number, cases):
+    """The cases, all of which this rule and no other is to refuse."""
+    for case in cases:
+        output = [0] * case.plan.picture_samples
+        answer, _ = jobs.job(case.plan, case.first, case.count, case.base,
+                             case.enhancement, output)
+        assert answer == number, case.kind
+    return cases
+
+
 def refusal_9_cases(plan, base, enhancement, ignoring):
     """Wrong lengths, alone and with rules 10 and 11 broken as well."""
     wild = [65535] * len(base)
@@ -488,7 +502,7 @@ def refusal_9_cases(plan, base, enhancement, ignoring):
               Case("9 before 10 and 11", plan, 0, 0, wild, wild + [0])]
     cases += [Case("9 with flag 1", ignoring, 1, 2, base[:-1], enhancement),
               Case("9 with flag 1", ignoring, 0, 0, base + [0], [65535])]
-    return cases
+    return refused(9, cases)
 
 
 def refusal_10_cases(plan, base, enhancement, ignoring):
@@ -503,7 +517,7 @@ def refusal_10_cases(plan, base, enhancement, ignoring):
               for first, count in beyond[:9]]
     cases += [Case("refused 10", ignoring, first, count, base, wild)
               for first, count in beyond[:4]]
-    return cases
+    return refused(10, cases)
 
 
 def refusal_11_cases(plan, base, enhancement, ignoring, generator):
@@ -539,6 +553,7 @@ def refusal_11_cases(plan, base, enhancement, ignoring, generator):
     cases.append(Case("bad sample ignored", ignoring, 1, 2, base, bad))
     cases.append(Case("refused 11", ignoring, 1, 2, replaced(base, at, 1 << depth), bad))
     cases.append(Case("refused 11", plan, 1, 2, replaced(base, at, 1 << depth), []))
+    refused(11, [case for case in cases if case.kind == "refused 11"])
     return cases
 
 
@@ -572,7 +587,7 @@ def random_coefficient(d, generator):
     """Mostly small numbers, so that sums are often neither cut nor negative."""
     kind = generator.below(8)
     if kind == 0:
-        return generator.between(-64 << d, (64 << d) - 1)
+        return generator.among(coefficients(d))
     if kind == 1:
         return generator.between(-2 << d, 2 << d)
     if kind == 2:
@@ -581,7 +596,7 @@ def random_coefficient(d, generator):
 
 
 def random_section(depth, d, generator):
-    n = generator.choice((0, 0, 1, 1, 2, 3, 5, 7, 15))
+    n = generator.choice((0, 0, 1, 1, 2, 3, 5, 7, limits.N[-1]))
     largest = generator.choice(((1 << depth) - 1, (1 << depth) // (n + 1), 12))
     pivots = [generator.below(generator.choice((1, 20, 1 << depth)))]
     for _ in range(n + 1):
@@ -603,7 +618,7 @@ def random_nlq(depth, d, generator):
     if kind == 0:
         return vernier(depth, d)._replace(offset=offset)
     if kind == 1:
-        return Nlq(offset, *(generator.below(2 << d) for _ in range(3)))
+        return Nlq(offset, *(generator.among(nlq_numbers(d)) for _ in range(3)))
     return Nlq(offset, generator.below(1 << generator.between(d - 4, d + 1)),
                generator.below(1 << generator.between(d - 13, d - 8)),
                generator.below(1 << generator.between(d - 12, d - 3)))
@@ -629,12 +644,13 @@ def random_enhancement_sample(plan, cmp, v, generator):
 
 def random_plan(shapes, generator):
     depth = generator.choice(DEPTHS)
-    d = generator.choice((depth + 5, 32, 32, generator.between(depth + 5, 32),
-                          generator.between(depth + 5, 32), 23))
+    allowed = denominators(depth)
+    d = generator.choice((allowed[0], allowed[-1], allowed[-1], generator.among(allowed),
+                          generator.among(allowed), 23))
     width, height = generator.choice(shapes)
     sections = [random_section(depth, d, generator) for _ in range(3)]
     flag = 1 if generator.one_in(8) else 0
-    return make_plan(depth, d, generator.choice((10, 12)), width, height, sections, flag)
+    return make_plan(depth, d, generator.choice(HDR_DEPTHS), width, height, sections, flag)
 
 
 def random_picture(plan, generator):

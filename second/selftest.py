@@ -9,9 +9,12 @@ import block_cases
 import composer
 import inspect_block
 import jobs
+import limits
 import make_vectors
 import night_cases
 import nights
+import places
+import plan_cases
 from composer import (Plan, assign_pivot_values, compose_row_pairs, derive_pivot_idx,
                       inverse_quantization, map_sample, reconstruct)
 
@@ -153,24 +156,35 @@ def test_reconstruction():
 def largest_plan():
     plan = small_plan()
     for cmp in range(3):
-        set_section(plan, cmp, [60 * i for i in range(17)], [[1, 2, 3]] * 16)
+        set_section(plan, cmp, [60 * i for i in range(limits.PIVOT_PLACES)],
+                    [[1, 2, 3]] * limits.pieces(limits.N[-1]))
     return plan
 
 
 def test_block_sizes():
+    """The house rules' lengths, against those that the limits come to."""
     shortest = small_plan()
-    assert len(block.section_bytes(shortest, 0)) == 34
+    assert len(block.section_bytes(shortest, 0)) == limits.SHORTEST_SECTION == 34
     data = block.write(shortest)
-    assert len(data) == 138
+    assert len(data) == limits.SHORTEST_BLOCK == 138
     assert struct.unpack(">6H", data[-12:]) == (126, 102, 68, 34, 1, 0)
     assert block.read(data) == (0, shortest)
     longest = largest_plan()
-    assert len(block.section_bytes(longest, 2)) == 324
+    assert len(block.section_bytes(longest, 2)) == limits.LONGEST_SECTION == 324
     data = block.write(longest)
-    assert len(data) == 1008
+    assert len(data) == limits.LONGEST_BLOCK == 1008
     assert block.read(data) == (0, longest)
     assert block.read(b"\xff" * 70000 + data) == (0, longest)
-    assert len(answers.places(longest)) == 11 + 3 * 107
+    assert len(places.PLACES) == 11 + 3 * 107
+
+
+def test_largest_size():
+    """W and H at the limit are read, and one more of W/2 or of H/2 is refused 4."""
+    for offset, allowed in ((8, limits.HALF_WIDTHS), (10, limits.HALF_HEIGHTS)):
+        data, most = block.write(small_plan()), allowed[-1]
+        number, plan = block.read(edited(data, offset, *divmod(most, 256)))
+        assert number == 0 and most in (plan.half_width, plan.half_height)
+        assert block.read(edited(data, offset, *divmod(most + 1, 256))) == (4, None)
 
 
 def edited(data, offset, *new):
@@ -186,24 +200,23 @@ def number_of(data):
 
 def test_block_refusals():
     data = block.write(small_plan())
-    number, plan = block.read(edited(data, 8, 8, 0))
-    assert number == 0 and plan.width == 4096
-    assert block.read(edited(data, 8, 8, 1)) == (4, None)      # W = 4,098
+    n = limits.N[-1] + 1
+    low, high = limits.COEF_INTS[0], limits.COEF_INTS[-1]
     assert number_of(bytes(12)) == 2
     assert number_of(bytes(11)) == 1
     assert number_of(edited(data, 126, 0, 10, 0xff, 0xf2)) == 2   # A 10, D0 65,522
     assert number_of(data[1:]) == 1
     assert number_of(edited(data, 135, 2)[1:]) == 2            # 2 before the rest of 1
-    assert number_of(edited(data, 24, 16)) == 5                # n = 16
+    assert number_of(edited(data, 24, n)) == 5
     assert number_of(edited(data, 24, 1)) == 3                 # n = 1: section too short
     assert number_of(edited(data, 29, 1)) == 5                 # mapping_idc, section 0
     assert number_of(edited(data, 24 + 34 + 5, 1)) == 6        # section 1
     assert number_of(edited(data, 24 + 68 + 5, 1)) == 6        # section 2
     assert number_of(edited(data, 24 + 68 + 5, 2)) == 5
-    assert number_of(edited(data, 31, 63)) == 0
-    assert number_of(edited(data, 31, 64)) == 5
-    assert number_of(edited(data, 31, 0xc0)) == 0              # -64
-    assert number_of(edited(data, 31, 0xbf)) == 5              # -65
+    assert number_of(edited(data, 31, high)) == 0
+    assert number_of(edited(data, 31, high + 1)) == 5
+    assert number_of(edited(data, 31, low % 256)) == 0
+    assert number_of(edited(data, 31, (low - 1) % 256)) == 5
     assert number_of(edited(data, 32, 0, 0, 0x7f, 0xff)) == 0  # 2^15 - 1
     assert number_of(edited(data, 32, 0, 0, 0x80, 0)) == 5     # 2^15
 
@@ -211,7 +224,7 @@ def test_block_refusals():
 def test_left_over_before_next_section():
     header, *sections = split(block.write(small_plan()))
     sections[0] += b"\0"
-    sections[1] = edited(sections[1], 0, 16)
+    sections[1] = edited(sections[1], 0, limits.N[-1] + 1)
     assert number_of(block.assemble(header, sections)) == 3
     sections[0] = sections[0][:-1]
     assert number_of(block.assemble(header, sections)) == 5
@@ -219,7 +232,8 @@ def test_left_over_before_next_section():
 
 def split(data):
     """Header and sections of a shortest block."""
-    return data[:24], data[24:58], data[58:92], data[92:126]
+    y, size = limits.HEADER_BYTES, limits.SHORTEST_SECTION
+    return [data[:y]] + [data[y + cmp * size:y + (cmp + 1) * size] for cmp in range(3)]
 
 
 def test_round_trip():
@@ -254,11 +268,31 @@ def test_rule_7():
     assert broken(lambda plan: plan.pred_pivot_value[1].__setitem__(2, 1))
     assert broken(lambda plan: plan.fp_poly_coef[2][0].__setitem__(2, 1))
     assert broken(lambda plan: plan.poly_order_minus1[0].__setitem__(1, 1))
-    assert broken(lambda plan: plan.fp_poly_coef[0][0].__setitem__(0, 64 << 15))
-    assert not broken(lambda plan: plan.fp_poly_coef[0][0].__setitem__(0, -64 << 15))
-    assert broken(lambda plan: plan.mapping_idc[1].__setitem__(0, 1))
+    coefficients, numbers = limits.coefficients(15), limits.nlq_numbers(15)
+    assert broken(lambda plan: plan.fp_poly_coef[0][0].__setitem__(0, coefficients[-1] + 1))
+    assert not broken(lambda plan: plan.fp_poly_coef[0][0].__setitem__(0, coefficients[0]))
+    assert broken(lambda plan: plan.mapping_idc[1].__setitem__(0, limits.MMR))
     assert broken(lambda plan: plan.nlq_offset.__setitem__(2, 1024))
-    assert broken(lambda plan: plan.fp_hdr_in_max.__setitem__(2, 2 << 15))
+    assert broken(lambda plan: plan.fp_hdr_in_max.__setitem__(2, numbers[-1] + 1))
+
+
+def test_plan_cases():
+    """Each place was tried where it is used and where it is not, at its ends and beyond."""
+    shown = set()
+    for group in plan_cases.all_groups():
+        assert block.read(block.write(group.plan)) == (0, group.plan)
+        for case in group.cases:
+            plan = places.changed(group.plan, case.edits)
+            broken = jobs.breaks_rule_7(plan)
+            for place, _ in case.edits[-1:] if broken else case.edits:
+                if len(place) > 1:
+                    shown.add((place, plan_cases.is_used(plan, place), broken))
+    for place in places.PLACES[len(places.HEADER):]:
+        can_be_used = plan_cases.is_used(largest_plan(), place)
+        can_be_free = not plan_cases.is_used(small_plan(), place)
+        assert ((place, True, True) in shown) == can_be_used
+        assert ((place, False, True) in shown) == can_be_free
+        assert (place, True, False) in shown or not can_be_used or place[0] == "mapping_idc"
 
 
 def test_jobs():
@@ -543,17 +577,20 @@ def test_order_nights():
 def test_night_limits():
     """What README.md says of the sizes in night_vectors."""
     for night in night_cases.all_nights():
-        assert night.plan.picture_samples <= 96 and night.output_size <= 96
-        assert len(night.marks) <= 48 and len(night.runs) < answers.NO_RUN
-        assert all(len(run) <= 96 for run in night.runs)
+        sizes = [night.plan.picture_samples, night.output_size, *map(len, night.runs)]
+        assert max(sizes) <= night_cases.LARGEST_RUN
+        assert len(night.marks) <= night_cases.LARGEST_MARKS
+        assert len(night.runs) < answers.NO_RUN
         assert not jobs.breaks_rule_7(night.plan)
 
 
 def test_what_is_said():
-    """By hand: the shortest block of depth 10 has its header at byte 0, its sections at 24, 58 and 92, its trailer at 126.
+    """By hand: the shortest block of depth 10 has its header at byte 0, its sections at
+    24, 58 and 92, its trailer at 126.
 
-    In a section: 0 the number of pivots, 1 and 3 the pivots, 5 mapping_idc, 6 the order, 7 and 12 the coefficients (an
-    integer byte and a fraction of four), 17 nlq_offset, 19, 24 and 29 the numbers after it.
+    In a section: 0 the number of pivots, 1 and 3 the pivots, 5 mapping_idc, 6 the order,
+    7 and 12 the coefficients (an integer byte and a fraction of four), 17 nlq_offset, 19,
+    24 and 29 the numbers after it.
     """
     good = block.write(small_plan())
     assert len(good) == 138 and inspect_block.inspect("x", good)[1] == "ccm_profile 1"
@@ -565,17 +602,23 @@ def test_what_is_said():
         name, refusal, found = inspect_block.inspect("x", bytes(data))
         return refusal.split(":")[0], found
 
+    n, order, integer = limits.N[-1], limits.ORDERS[-1], limits.NLQ_INTS[-1]
+    low, high = limits.COEF_INTS[0], limits.COEF_INTS[-1]
     expected = [
-        ((24, 16), "5 at byte 24", "num_pivots_minus2[0] is 16, allowed 0 to 15"),
+        ((24, n + 1), "5 at byte 24", "num_pivots_minus2[0] is %d, allowed 0 to %d" % (n + 1, n)),
         ((61, 4), "5 at byte 61", "pred_pivot_value[1][1] is 1279, allowed less than 1024"),
         ((29, 1), "5 at byte 29", "mapping_idc[0][0] is 1, allowed 0"),
         ((63, 1), "6 at byte 63", "mapping_idc[1][0] is 1, allowed 0"),
-        ((64, 2), "5 at byte 64", "poly_order_minus1[1][0] is 2, allowed 0 to 1"),
-        ((99, 64), "5 at byte 99", "poly_coef_int[2][0][0] is 64, allowed -64 to 63"),
-        ((36, 0xBF), "5 at byte 36", "poly_coef_int[0][0][1] is -65, allowed -64 to 63"),
+        ((64, order + 1), "5 at byte 64",
+         "poly_order_minus1[1][0] is %d, allowed 0 to %d" % (order + 1, order)),
+        ((99, high + 1), "5 at byte 99",
+         "poly_coef_int[2][0][0] is %d, allowed %d to %d" % (high + 1, low, high)),
+        ((36, (low - 1) % 256), "5 at byte 36",
+         "poly_coef_int[0][0][1] is %d, allowed %d to %d" % (low - 1, low, high)),
         ((39, 0x80), "5 at byte 37", "poly_coef[0][0][1] is 32768, allowed less than 32768"),
         ((109, 4), "5 at byte 109", "nlq_offset[2] is 1024, allowed less than 1024"),
-        ((48, 2), "5 at byte 48", "linear_deadzone_slope_int[0] is 2, allowed 0 to 1"),
+        ((48, integer + 1), "5 at byte 48",
+         "linear_deadzone_slope_int[0] is %d, allowed 0 to %d" % (integer + 1, integer)),
         ((122, 1), "5 at byte 122", "linear_deadzone_threshold[2] is 16777216, allowed less than 32768"),
         ((0, 2), "4 at byte 0", "ccm_profile is 2, allowed 1, 3 or 4"),
         ((137, 1), "2 at byte 126", "A is 126, D0 is 102, D1 is 68, D2 is 34, version is 1, zero is 1, "

@@ -1,7 +1,10 @@
 // What the vector programs share: numbers and runs from standard input, runs to standard output.
 use block::Reading;
+ghost use mathlib.Core.Path.{_≡_};
 ghost use Prim.Native.Nat.{_<_, _≤_};
+ghost use Rattle.runs.specs.Runs.{painted};
 ghost use Rattle.block.specs.Facts.{Sound};
+ghost use Rattle.streams.specs.Untouched.{everywhere, untouched};
 
 // A number of the input; `there` is false where the input has ended.
 pub struct Number {
@@ -75,7 +78,9 @@ pub fn next_block(bytes: &mut [u8], n: usize) -> Reading
 }
 
 // What an output holds before any call, so that rows that nobody wrote show.
-pub fn untouch(run: &mut [u16]) {
+pub fn untouch(run: &mut [u16])
+    ensures { λ _. ⌜ now (run .exit) ≡ painted everywhere untouched (now (run .entry)) ⌝ }
+{
     let mut i: usize = 0;
     while i < run.len() {
         run[i] = 60000 + (i % 1000) as u16;

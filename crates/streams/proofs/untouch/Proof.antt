@@ -1,50 +1,43 @@
-use mathlib.Core.Path.{_≡_, refl}
-use borrow.Author.Needs.{needs}
-use Prim.Native.Nat.{_≤_, _-_}
+-- `untouch` meets its contract: the run is painted up to i. Assumes nothing.
+use mathlib.Core.Path.{_≡_, refl, sym, ap, _∙_}
+use Prim.Native.Nat.{_-_, _≤_, zero-le}
 use native.Mathlib.Omega.{arith}
-use lib.ListN.{length, length-set}
+use lib.ListN.{length, set, length-set}
+use borrow.Author.Needs.{needs}
+use Rattle.runs.specs.Runs.{painted, between}
+use Rattle.runs.proofs.Between.{in-between, between-empty}
+use Rattle.runs.proofs.Painting.{painted-none, painted-more, painted-cong}
+use Rattle.streams.specs.Untouched.{untouched}
 use Rattle.streams.proofs.untouch.Statement.{statement}
 use Rattle.streams.proofs.untouch.Tie as tie
 
 abbrev Inv-loop : tie.InvT-loop
-Inv-loop run₀ i₀ run i = (i ≤ length run) × (length run ≡ length run₀)
+Inv-loop run₀ i₀ run i = (i ≤ length run₀) × ((run ≡ painted (between 0 i) untouched run₀) × (length run ≡ length run₀))
 
 abbrev μ-loop : tie.MeasureT-loop
-μ-loop run₀ i₀ run i = length run - i
+μ-loop run₀ i₀ run i = length run₀ - i
 
 loop-holds : tie.Need-loop-holds Inv-loop μ-loop
-loop-holds c = (omega arith, refl)
-
-cast-run : tie.Need-cast-run Inv-loop μ-loop
-cast-run c = search needs
-
-add-run : tie.Need-add-run Inv-loop μ-loop
-add-run c = search needs
-
-mul-run : tie.Need-mul-run Inv-loop μ-loop
-mul-run c = search needs
-
-slice-write-run : tie.Need-slice-write-run Inv-loop μ-loop
-slice-write-run c = search needs
-
-add-i : tie.Need-add-i Inv-loop μ-loop
-add-i c = search needs
-
-loop-less : tie.Need-loop-less Inv-loop μ-loop
-loop-less c = simp length-set (omega arith)
+loop-holds c = (omega arith, (sym (painted-none _ _ _ (λ i b. between-empty 0 i)), refl))
 
 loop-again : tie.Need-loop-again Inv-loop μ-loop
 loop-again c =
-    let lp : tie.At-loop Inv-loop μ-loop = search needs in
-    (simp length-set (omega arith), simp length-set (lp .loop .inv .1))
+    let st : tie.Start Inv-loop μ-loop = search needs in
+    let l : tie.At-loop Inv-loop μ-loop = search needs in (
+      omega arith,
+      (
+        ap (λ m. set m (l .loop .i) (untouched (l .loop .i))) (l .loop .inv .1 .0) ∙ painted-more 0 (l .loop .i) untouched (st .args .run .now) (untouched (l .loop .i)) zero-le (omega arith) refl,
+        simp length-set (omega arith),
+      ),
+    )
 
 same-length : tie.Need-same-length Inv-loop μ-loop
-same-length c =
-    let lp : tie.At-loop Inv-loop μ-loop = search needs in
-    lp .loop .inv .1
+same-length c = let l : tie.At-loop Inv-loop μ-loop = search needs in l .loop .inv .1 .1
 
 returns : tie.Need-returns Inv-loop μ-loop
-returns c = search needs
+returns c =
+    let l : tie.At-loop Inv-loop μ-loop = search needs in
+    l .loop .inv .1 .0 ∙ painted-cong _ _ _ _ _ (λ i b. in-between 0 (l .loop .i) i zero-le (omega arith)) (λ i b t. refl)
 
 pub untouch-spec : {M : Type 1} → statement M
 untouch-spec =
@@ -53,12 +46,12 @@ untouch-spec =
     Inv-loop
     μ-loop
     loop-holds
-    cast-run
-    add-run
-    mul-run
-    slice-write-run
-    add-i
-    loop-less
+    (λ c. search needs)
+    (λ c. search needs)
+    (λ c. search needs)
+    (λ c. search needs)
+    (λ c. search needs)
+    (λ c. search needs)
     loop-again
     same-length
     returns)
