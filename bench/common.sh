@@ -16,15 +16,22 @@ limit() {
 columns=$(limit MOST_COLUMNS)
 pairs=$(limit MOST_PAIRS)
 
-# harness NAME OBJECT...: what NAME.c runs, linked to $out/NAME
-harness() {
-  name=$1
-  shift
-  gcc -O2 $warnings -DMOST_COLUMNS="$columns" -DMOST_PAIRS="$pairs" bench/picture.c bench/measure.c bench/rows.c \
-    "bench/$name.c" "$@" -o "$out/$name"
-}
-
 # staticlib FOLDER: proves and compiles `speed` of the repository there
 staticlib() {
   (cd "$1" && rt staticlib speed) >"$out/staticlib.log" 2>&1 || { tail -n 20 "$out/staticlib.log"; return 1; }
+}
+
+# object FOLDER OBJECT: one object of that library, on x86-64
+object() {
+  ld -r --whole-archive "$1/target/staticlib/libspeed.a" -o "$2"
+}
+
+# harness NAME OBJECT...: what NAME.c runs, linked to $out/NAME. The objects' code begins at pages: where a loop lies in
+# a line of the cache can change its time by a tenth, and this must not hang on what is linked beside it.
+harness() {
+  name=$1
+  shift
+  for part in "$@"; do objcopy --set-section-alignment '.text*=4096' "$part"; done
+  gcc -O2 $warnings -DMOST_COLUMNS="$columns" -DMOST_PAIRS="$pairs" bench/picture.c bench/measure.c bench/rows.c \
+    "bench/$name.c" "$@" -o "$out/$name"
 }
