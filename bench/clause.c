@@ -1,6 +1,6 @@
-/* Clause-by-clause C of GS CCM 001, 5.4, as a player's engineer would write it: what the proved code is timed against.
+/* Clause-by-clause C of GS CCM 001, 5.4, as a player's engineer would write it: the first yardstick.
    It trusts the plan (rule 7 is not tested here) and tests lengths, row pairs and samples. */
-#include "clause.h"
+#include "job.h"
 
 #ifndef NAME
 #error "compile with -DNAME=clause_gcc or -DNAME=clause_clang"
@@ -71,8 +71,9 @@ static uint16_t reconstruct(int64_t v, int64_t r, int out)
     return (uint16_t)(h > most ? most : h);
 }
 
-static void compose_span(const Header *h, const Component *c, int enhanced, size_t from, size_t to, const uint16_t *restrict base,
-                         const uint16_t *restrict enhancement, uint16_t *restrict output)
+static void compose_span(const Header *h, const Component *c, int enhanced, size_t from, size_t to,
+                         const uint16_t *restrict base, const uint16_t *restrict enhancement,
+                         uint16_t *restrict output)
 {
     int depth = h->bl + 8, d = h->d, out = h->hdr + 8, n = c->n;
     int32_t pivot_value[17];
@@ -101,7 +102,7 @@ static int some_large(const uint16_t *run, size_t from, size_t to, uint16_t limi
     return most >= limit;
 }
 
-CLAUSE(NAME)
+JOB(NAME)
 {
     const Header *h = &plan->header;
     size_t columns = h->columns, n = columns * h->pairs;

@@ -1,0 +1,48 @@
+/* What `against` runs: the proved code before a change and after it. Prints tables in Markdown: nanoseconds a sample
+   and ratios, at the end the worst and the median ratio. Exits 1 where outputs differ. */
+#include "rows.h"
+#include <stdio.h>
+
+enum { RUNS = 61, ROWS = 72 };
+
+#define WAY(name, job)                                                                                    \
+    static uint8_t name(const Plan *plan, size_t first, size_t count)                                     \
+    {                                                                                                     \
+        return job(*plan, 1, 1, first, count, base, size, enhancement, size, output, size, marks, pairs); \
+    }
+WAY(before, speed_job_before)
+WAY(after, speed_job)
+static Way *const ways[] = {before, after};
+
+static double ratios[ROWS];
+static int rows;
+
+/* The ratio is the median of the runs' own ratios: what slows the machine for a while slows both sides of a run. */
+static void before_and_after(int pieces, int enhanced, size_t step)
+{
+    Plan plan = plan_of(pieces, enhanced);
+    double times[2][RUNS], ratio[RUNS];
+    compare(ways, 2, &plan, step);
+    measure(ways, 2, RUNS, &plan, step, times);
+    for (int r = 0; r < RUNS; r++)
+        ratio[r] = times[1][r] / times[0][r];
+    ratios[rows] = median(ratio, RUNS);
+    printf("| %.2f | %.2f | %.3f |\n", median(times[0], RUNS), median(times[1], RUNS), ratios[rows]);
+    rows++;
+}
+
+int main(void)
+{
+    static const size_t half[][2] = {{1920, 1080}, {960, 540}};
+    for (int k = 0; k < 2; k++) {
+        printf("%zu x %zu, nanoseconds a sample, medians of %d interleaved runs:\n\n"
+               "| samples | jobs | pieces | enhancement | before | after | after / before |\n"
+               "|---|---|---|---|---|---|---|\n",
+               2 * half[k][0], 2 * half[k][1], RUNS);
+        each_row(half[k][0], half[k][1], before_and_after);
+        printf("\n");
+    }
+    double middle = median(ratios, rows);
+    printf("after / before: the worst %.3f, the median %.3f\n", ratios[rows - 1], middle);
+    return 0;
+}

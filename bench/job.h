@@ -1,0 +1,49 @@
+/* A row job as C sees it: the plan's layout, the proved job, and the C jobs that it is timed against. */
+#include <stddef.h>
+#include <stdint.h>
+
+typedef struct {
+    uint8_t profile, level, d, bl, el, hdr, disabled;
+    uint16_t columns, pairs, brightest;
+    uint32_t darkest;
+} Header;
+
+typedef struct {
+    uint8_t idc, order;
+    int64_t row[3];
+} Piece;
+
+typedef struct {
+    uint16_t offset;
+    uint64_t maximum, slope, threshold;
+} Nlq;
+
+typedef struct {
+    uint8_t n;
+    uint16_t preds[17];
+    Piece pieces[17];
+    Nlq nlq;
+} Component;
+
+typedef struct {
+    Header header;
+    Component y, cb, cr;
+} Plan;
+
+/* The proved row job: 0, or the refusal's number. A slice is a pointer, then a length. `against` links it twice. */
+#define PROVED_JOB(name)                                                                              \
+    uint8_t name(Plan plan, uint32_t open_ticket, uint32_t ticket, size_t first, size_t count,        \
+                 const uint16_t *base, size_t base_len, const uint16_t *enhancement, size_t enhancement_len, \
+                 uint16_t *output, size_t output_len, uint8_t *marks, size_t marks_len)
+PROVED_JOB(speed_job);
+PROVED_JOB(speed_job_before);
+
+/* The same job in C: clause.c and tables.c, once a compiler. They have no tickets and no marks, so the proved side does
+   a little more. */
+#define JOB(name)                                                                                     \
+    uint8_t name(const Plan *plan, size_t first, size_t count, const uint16_t *base, size_t base_len, \
+                 const uint16_t *enhancement, size_t enhancement_len, uint16_t *output, size_t output_len)
+JOB(clause_gcc);
+JOB(clause_clang);
+JOB(tables_gcc);
+JOB(tables_clang);

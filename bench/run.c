@@ -1,0 +1,86 @@
+/* What `run` runs: the proved code against clause-by-clause C, C with tables, and memcpy. Prints tables in Markdown:
+   nanoseconds a sample and ratios. Exits 1 where outputs differ. */
+#include "rows.h"
+#include <stdio.h>
+#include <string.h>
+
+enum { RUNS = 9 };
+
+static uint8_t copy(const Plan *plan, size_t first, size_t count)
+{
+    (void)plan;
+    memcpy(output + 6 * columns * first, base + 6 * columns * first, 6 * columns * count * sizeof base[0]);
+    return 0;
+}
+
+static uint8_t proved(const Plan *plan, size_t first, size_t count)
+{
+    return speed_job(*plan, 1, 1, first, count, base, size, enhancement, size, output, size, marks, pairs);
+}
+
+#define C_WAY(name)                                                                                \
+    static uint8_t by_##name(const Plan *plan, size_t first, size_t count)                         \
+    {                                                                                              \
+        return name(plan, first, count, base, size, enhancement, size, output, size);              \
+    }
+C_WAY(tables_gcc)
+C_WAY(tables_clang)
+C_WAY(clause_gcc)
+C_WAY(clause_clang)
+
+enum { COPY, PROVED, TABLES, CLAUSE = TABLES + 2, WAYS = CLAUSE + 2 };
+static Way *const ways[WAYS] = {copy, proved, by_tables_gcc, by_tables_clang, by_clause_gcc, by_clause_clang};
+
+/* the medians of the first n ways, after the outputs were compared */
+static void medians(int n, int pieces, int enhanced, size_t step, double t[n])
+{
+    Plan plan = plan_of(pieces, enhanced);
+    double times[n][RUNS];
+    compare(ways + PROVED, n - PROVED, &plan, step);
+    measure(ways, n, RUNS, &plan, step, times);
+    for (int w = 0; w < n; w++)
+        t[w] = median(times[w], RUNS);
+}
+
+/* of the two compilers */
+static double better(const double t[2])
+{
+    return t[0] < t[1] ? t[0] : t[1];
+}
+
+static void against_c(int pieces, int enhanced, size_t step)
+{
+    double t[WAYS];
+    medians(WAYS, pieces, enhanced, step, t);
+    printf("| %.2f | %.2f | %.2f | %.2f | %.2f | %.2f |\n", t[PROVED], better(t + CLAUSE), better(t + TABLES), t[COPY],
+           t[PROVED] / better(t + CLAUSE), t[PROVED] / better(t + TABLES));
+}
+
+/* whether the time a sample grows with the picture: whole pictures, smooth, 8 pieces */
+static void by_picture(void)
+{
+    static const size_t half[][2] = {{240, 136}, {480, 270}, {960, 540}, {1920, 1080}, {MOST_COLUMNS, MOST_PAIRS}};
+    printf("\nWhole pictures of several sizes, smooth samples, 8 pieces:\n\n"
+           "| picture | proved | table C | proved, enhancement | table C, enhancement | memcpy |\n"
+           "|---|---|---|---|---|---|\n");
+    for (size_t k = 0; k < sizeof half / sizeof half[0]; k++) {
+        double plain[CLAUSE], enhanced[CLAUSE];
+        fill(half[k][0], half[k][1], 1);
+        medians(CLAUSE, 8, 0, pairs, plain);
+        medians(CLAUSE, 8, 1, pairs, enhanced);
+        printf("| %zu x %zu | %.2f | %.2f | %.2f | %.2f | %.2f |\n", 2 * columns, 2 * pairs, plain[PROVED],
+               better(plain + TABLES), enhanced[PROVED], better(enhanced + TABLES), plain[COPY]);
+        fflush(stdout);
+    }
+}
+
+int main(void)
+{
+    printf("Nanoseconds a sample, medians of %d interleaved runs; 3840 x 2160:\n\n"
+           "| samples | jobs | pieces | enhancement | proved | clause C | table C | memcpy | proved / clause C "
+           "| proved / table C |\n|---|---|---|---|---|---|---|---|---|---|\n",
+           RUNS);
+    each_row(1920, 1080, against_c);
+    by_picture();
+    return 0;
+}
