@@ -9,16 +9,17 @@ use plan::Component;
 use plan::Header;
 use plan::is_usable;
 use polynomial::map_step;
-ghost use mathlib.Core.Bool.{true};
 ghost use mathlib.Core.Path.{_≡_};
-ghost use Rattle.plan.specs.Rule7.{usable};
 ghost use Rattle.mapping.specs.Mapped.{mapped-table};
 
-// Every code of a component that can be computed with. The row of a code's piece goes by value to the mapping step.
-fn map_codes(h: Header, c: Component) -> [u16; 1024]
-    requires { ⌜ usable h c ≡ true ⌝ }
+// The mapped sample of each code; zeros where the component cannot be computed with. The row of a code's piece goes by value
+// to the mapping step.
+pub fn mapped_table(h: Header, c: Component) -> [u16; 1024]
     ensures { λ r. ⌜ r ≡ mapped-table h c ⌝ }
 {
+    if !is_usable(h, c) {
+        return [0u16; 1024];
+    }
     let depth = (h.bl as u32) + 8;
     let d = h.d as u32;
     let n = c.n as usize;
@@ -37,14 +38,4 @@ fn map_codes(h: Header, c: Component) -> [u16; 1024]
         s += 1;
     }
     table
-}
-
-// The mapped sample of each code; zeros where the component cannot be computed with.
-pub fn mapped_table(h: Header, c: Component) -> [u16; 1024]
-    ensures { λ r. ⌜ r ≡ mapped-table h c ⌝ }
-{
-    if !is_usable(h, c) {
-        return [0u16; 1024];
-    }
-    map_codes(h, c)
 }

@@ -2,7 +2,7 @@
 ghost use mathlib.Core.Path.{_≡_};
 ghost use Prim.Native.Nat.{_*_, _≤_, _^_};
 ghost use lib.IntN.{pos};
-ghost use Rattle.standard.specs.Mapping.{from-zero, poly-sum, cut};
+ghost use Rattle.standard.specs.Mapping.{poly-sum, cut};
 ghost use Rattle.mapping.specs.Steps.{coef, RowRanges};
 
 // A number times a power of two.
@@ -24,21 +24,15 @@ fn sum_of(depth: u32, s: u16, row: [i64; 3]) -> i64
     row[0] * 1048576 + row[1] * linear + row[2] * square
 }
 
-// A negative number becomes 0.
-fn positive(v: i64) -> u64
-    ensures { λ r. ⌜ r ≡ from-zero v ⌝ }
-{
-    if v < 0 {
-        return 0;
-    }
-    v as u64
-}
-
+// The sum is not below 0, is shifted, and is cut.
 fn cut_at(d: u32, v: i64) -> u16
     requires { ⌜ d ≤ 32 ⌝ }
     ensures { λ r. ⌜ r ≡ cut d v ⌝ }
 {
-    let q = positive(v) >> (4 + d);
+    if v < 0 {
+        return 0;
+    }
+    let q = (v as u64) >> (4 + d);
     if q > 65535 {
         return 65535;
     }

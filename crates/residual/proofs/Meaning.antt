@@ -1,5 +1,5 @@
 -- What stands in the three tables. Assumes nothing.
-use mathlib.Core.Path.{_≡_, refl, sym, ap, _∙_}
+use mathlib.Core.Path.{_≡_, refl, _∙_}
 use mathlib.Core.Bool.{Bool, true, false, cond, _&&_}
 use mathlib.Core.List.{List}
 use Prim.Native.Nat.{ℕ, _+_, _/_, _%_, _<_, _≤_, _^_}
@@ -9,7 +9,6 @@ use lib.IntN.{ℤ, pos}
 use lib.Pow.{pow-mono}
 use borrow.Author.Tests.{lt-ltb, le-ltb}
 use Rattle.runs.specs.Runs.{at}
-use Rattle.runs.specs.Tables.{table}
 use Rattle.runs.proofs.Tables.{at-table}
 use Rattle.standard.specs.Residual.{residual}
 use Rattle.standard.specs.Reconstruction.{reconstructed}
@@ -22,7 +21,6 @@ use Rattle.plan.proofs.Facts.{header-kept}
 use Rattle.plan.proofs.Truths.{both}
 use Rattle.residual.specs.Raising.{raised, lowered}
 use Rattle.residual.specs.Tables.{residual-code, residual-table, finished-code, finished-table, cut-code, cut-table}
-use Rattle.residual.specs.Steps.{finished-by}
 use Rattle.residual.proofs.Raising.{lowered-raised, sum-less}
 
 module _ (h : Header) (c : Component) where
@@ -51,24 +49,24 @@ module _ (h : Header) (c : Component) where
       rw (mod-eq-of-lt k, at-table 1024 (residual-code h c) e k) (code-raised u e b)
 
 module _ (h : Header) (u : header-fits h ≡ true) where
-  pub finished-is : (mapped : List ℕ) → table 1024 (finished-by (hdr-depth h) mapped) ≡ finished-table h mapped
-  unfolding finished-table finished-code finished-by
-  finished-is mapped = ap (λ (b : Bool). table 1024 (λ s. cond b (reconstructed (hdr-depth h) (at mapped s) (pos 0)) 0)) (sym u)
+  pub code-finished : (mapped : List ℕ) (s : ℕ) → finished-code h mapped s ≡ reconstructed (hdr-depth h) (at mapped s) (pos 0)
+  unfolding finished-code
+  code-finished mapped s = rw u
 
-  pub cuts-are : table 16384 (lowered (hdr-depth h)) ≡ cut-table h
-  unfolding cut-table cut-code
-  cuts-are = ap (λ (b : Bool). table 16384 (λ k. cond b (lowered (hdr-depth h) k) 0)) (sym u)
+  pub code-cut : (k : ℕ) → cut-code h k ≡ lowered (hdr-depth h) k
+  unfolding cut-code
+  code-cut k = rw u
 
   -- for whoever looks a mapped sample, or a sum, up
   pub finished-found : (mapped : List ℕ) (s : ℕ) → s < 1024 → at (finished-table h mapped) s ≡ reconstructed (hdr-depth h) (at mapped s) (pos 0)
-  unfolding finished-table finished-code
-  finished-found mapped s b = at-table 1024 (finished-code h mapped) s b ∙ rw u
+  unfolding finished-table
+  finished-found mapped s b = at-table 1024 (finished-code h mapped) s b ∙ code-finished mapped s
 
   pub cut-found : (v : ℕ) (r : ℤ) → v ≤ 65535 → at (cut-table h) ((v + raised (hdr-depth h) r) / 16 % 16384) ≡ reconstructed (hdr-depth h) v r
-  unfolding cut-table cut-code
+  unfolding cut-table
   cut-found v r small =
       let k : (v + raised (hdr-depth h) r) / 16 < 16384 = omega (arith, sum-less (hdr-depth h) v r small) in
-      rw (mod-eq-of-lt k, at-table 16384 (cut-code h) ((v + raised (hdr-depth h) r) / 16) k, u)
+      rw (mod-eq-of-lt k, at-table 16384 (cut-code h) ((v + raised (hdr-depth h) r) / 16) k, code-cut)
       (lowered-raised (hdr-depth h) (omega (arith, header-kept h u .out-depth)) v r small)
 
 -- a header that cannot be computed with

@@ -1,26 +1,38 @@
 // The residual (5.4.3.2) and the reconstruction (5.4.3.3), as tables of what every code, mapped sample and sum comes to.
-mod filling; // the loops that fill the tables
+// Each is zeros where the header or the component cannot be computed with.
 mod inverse; // the inverse quantization of one enhancement layer sample
 mod rounding; // the reconstruction of one HDR sample
 
-use filling::cut_sums;
-use filling::finish_codes;
-use filling::raise_codes;
+use inverse::residual_of;
 use plan::Component;
 use plan::Header;
 use plan::is_usable;
 use plan::ranges::header_fits;
+use rounding::finish;
+use rounding::power;
+use rounding::raise;
 ghost use mathlib.Core.Path.{_≡_};
 ghost use Rattle.residual.specs.Tables.{residual-table, finished-table, cut-table};
 
-// The raised residual of each code; zeros where the component cannot be computed with.
+// The raised residual of each code.
 pub fn residual_table(h: Header, c: Component) -> [u32; 1024]
     ensures { λ r. ⌜ r ≡ residual-table h c ⌝ }
 {
     if !is_usable(h, c) {
         return [0u32; 1024];
     }
-    raise_codes(h, c)
+    let el = (h.el as u32) + 8;
+    let d = h.d as u32;
+    let out = (h.hdr as u32) + 8;
+    let q = c.nlq;
+    let codes = power(el) as u16;
+    let mut table = [0u32; 1024];
+    let mut e: u16 = 0;
+    while e < codes {
+        table[e as usize] = raise(out, residual_of(el, d, q, e));
+        e += 1;
+    }
+    table
 }
 
 // The HDR sample of each mapped sample, where there is no residual.
@@ -30,15 +42,36 @@ pub fn finished_table(h: Header, mapped: &[u16; 1024]) -> [u16; 1024]
     if !header_fits(h) {
         return [0u16; 1024];
     }
-    finish_codes((h.hdr as u32) + 8, mapped)
+    let out = (h.hdr as u32) + 8;
+    let mut table = [0u16; 1024];
+    let mut s = 0;
+    while s < 1024 {
+        table[s] = finish(out, mapped[s]);
+        s += 1;
+    }
+    table
 }
 
-// The HDR sample of each sixteenth of a sum: it depends on the depth alone, so one table serves three components.
+// The HDR sample of each sixteenth of a sum: it depends on the depth alone, so that one table serves three components.
+// There are three parts, the same at every depth: nothing is below 2^12, the samples go up to 2^13, and the highest follows.
+// Neither loop has a branch, so that eight places are filled at once.
 pub fn cut_table(h: Header) -> [u16; 16384]
     ensures { λ r. ⌜ r ≡ cut-table h ⌝ }
 {
     if !header_fits(h) {
         return [0u16; 16384];
     }
-    cut_sums((h.hdr as u32) + 8)
+    let out = (h.hdr as u32) + 8;
+    let zero = power(out) as u16;
+    let mut table = [0u16; 16384];
+    let mut k: u16 = 4096;
+    while k < 8192 {
+        table[k as usize] = (k >> (12 - out)) - zero;
+        k += 1;
+    }
+    while k < 16384 {
+        table[k as usize] = zero - 1;
+        k += 1;
+    }
+    table
 }

@@ -1,21 +1,147 @@
--- `mapping::mapped_table` meets its contract: zeros, or what every code comes to. Assumes nothing.
-use mathlib.Core.Path.{_≡_, sym, _∙_}
+-- `mapping::mapped_table` meets its contract: zeros, or a loop in which the codes passed have their mapped samples. Assumes nothing.
+use mathlib.Core.Path.{_≡_, sym, ap₂, _∙_}
+use mathlib.Core.Bool.{true}
 use borrow.Author.Needs.{needs}
 use borrow.Author.Tests.{not-true, not-false}
-use Rattle.runs.proofs.Tables.{zero-table}
+use Prim.Native.Nat.{ℕ, _+_, _-_, _*_, _%_, _^_, _<_, _≤_}
+use native.Mathlib.Nat.{le-trans, lt-of-lt-of-le, mul-le-mul-left}
+use native.Mathlib.Omega.{arith}
+use lib.Pow.{pow-mono}
+use Rattle.runs.proofs.Tables.{Filled, fill-none, fill-more, fill-all, zero-table}
+use Rattle.standard.specs.Mapping.{pivot-value, poly-sum, cut}
+use Rattle.plan.specs.Ranges.{header-fits}
+use Rattle.plan.specs.Rule7.{usable}
+use Rattle.plan.specs.Facts.{HeaderFacts, ComponentFacts}
+use Rattle.plan.proofs.Facts.{header-kept, component-facts}
+use Rattle.plan.proofs.Shifting.{one-shifted}
+use Rattle.plan.proofs.Sizes.{arrays}
+use Rattle.plan.proofs.Truths.{both}
 use Rattle.mapping.specs.Mapped.{mapped-code, mapped-table}
-use Rattle.mapping.proofs.Meaning.{not-usable}
+use Rattle.mapping.specs.Steps.{coef, row-of, mapped-by}
+use Rattle.mapping.proofs.Meaning.{lowest, mapped-is, code-mapped, past-codes, not-usable}
 use Rattle.mapping.proofs.mapped_table.Statement.{statement}
 use Rattle.mapping.proofs.mapped_table.Tie as tie
 
-returns : tie.Need-returns
+abbrev Inv-loop : tie.InvT-loop
+Inv-loop depth d n pieces pivots codes table₀ s₀ table s = (s ≤ codes) × Filled 1024 (mapped-by depth d n pivots pieces) s table
+
+abbrev μ-loop : tie.MeasureT-loop
+μ-loop depth d n pieces pivots codes table₀ s₀ table s = codes - s
+
+-- what the test of the component gives
+abbrev start : tie.Else1 Inv-loop μ-loop → tie.Start Inv-loop μ-loop
+start e = e .before .before
+
+passed : (st : tie.Else1 Inv-loop μ-loop) → usable (start st .args .h) (start st .args .c) ≡ true
+passed st = sym (st .before .is-usable .ensures) ∙ not-false _ (st .if1 .left)
+
+header : (st : tie.Else1 Inv-loop μ-loop) → HeaderFacts (start st .args .h)
+header st = header-kept (start st .args .h) (both (header-fits (start st .args .h)) _ (passed st) .0)
+
+component : (st : tie.Else1 Inv-loop μ-loop) → ComponentFacts (start st .args .h) (start st .args .c)
+component st = component-facts (start st .args .h) (start st .args .c) (arrays (start st .args .c) _ (start st .good .1 .0)) (both (header-fits (start st .args .h)) _ (passed st) .1)
+
+count : (st : tie.Else1 Inv-loop μ-loop) → start st .args .c .n ≤ 15
+count st = component st .count
+
+-- there are 2 ^ depth codes, and no more than places
+all : (st : tie.Else1 Inv-loop μ-loop) → (1 * 2 ^ (start st .args .h .bl + 8)) % 18446744073709551616 ≡ 2 ^ (start st .args .h .bl + 8)
+all st = one-shifted (start st .args .h .bl + 8) (omega (arith, header st .base-depth))
+
+few : (st : tie.Else1 Inv-loop μ-loop) → 2 ^ (start st .args .h .bl + 8) ≤ 1024
+few st = pow-mono {j = 10} (omega (arith, header st .base-depth))
+
+inside : (c : tie.In-loop Inv-loop μ-loop) → c .before .loop .s < 1024
+inside c =
+    let st : tie.Else1 Inv-loop μ-loop = search needs in
+    omega (arith, c .loop-test, all st, few st)
+
+pivots-of-requires : tie.Need-pivots-of-requires Inv-loop μ-loop
+pivots-of-requires c κs =
+    let st : tie.Else1 Inv-loop μ-loop = search needs in
+    λ i. lt-of-lt-of-le (component st .pivot i) (few st)
+
+low : (c : tie.After-piece-of Inv-loop μ-loop) → c .piece-of .result < 17
+low c =
+    let st : tie.Else1 Inv-loop μ-loop = search needs in
+    omega (arith, c .piece-of .ensures .1, count st)
+
+map-step-requires : tie.Need-map-step-requires Inv-loop μ-loop
+map-step-requires c κs =
+    let st : tie.Else1 Inv-loop μ-loop = search needs in
+    let il : tie.In-loop Inv-loop μ-loop = search needs in
+    let pv : tie.After-pivots-of Inv-loop μ-loop = search needs in
+    let t : tie.After-clamp Inv-loop μ-loop = search needs in
+    let p : tie.After-piece-of Inv-loop μ-loop = search needs in (
+      header st .shallow,
+      record {
+        shallow = omega (arith, header st .base-depth);
+        sample = omega (arith, t .clamp .ensures, il .loop-test, all st, lowest (start st .args .c .preds) (pv .pivots-of .ensures), component st .pivot 0);
+        coefficient = λ i. le-trans (component st .coefficient (p .piece-of .result) i) (mul-le-mul-left 64 (pow-mono (header st .shallow)));
+      },
+    )
+
+loop-again : tie.Need-loop-again Inv-loop μ-loop
+unfolding mapped-by
+loop-again c =
+    let st : tie.Else1 Inv-loop μ-loop = search needs in
+    let lp : tie.At-loop Inv-loop μ-loop = search needs in
+    let il : tie.In-loop Inv-loop μ-loop = search needs in
+    let t : tie.After-clamp Inv-loop μ-loop = search needs in
+    let p : tie.After-piece-of Inv-loop μ-loop = search needs in
+    let h = start st .args .h in (
+      omega arith,
+      fill-more (lp .loop .inv .1) (inside il)
+          (c .map-step .ensures ∙ ap₂ (λ (x q : ℕ). cut (h .d) (poly-sum (h .bl + 8) x (coef (row-of (start st .args .c .pieces) q)) 2)) (t .clamp .ensures) (p .piece-of .ensures .0)),
+    )
+
+returns : tie.Need-returns Inv-loop μ-loop
 unfolding mapped-table
 returns c =
-    let st : tie.Start = search needs in
+    let st : tie.Start Inv-loop μ-loop = search needs in
     zero-table 1024 (mapped-code (st .args .h) (st .args .c)) (not-usable (st .args .h) (st .args .c) (sym (c .before .is-usable .ensures) ∙ not-true _ (c .if1 .taken)))
 
-map-codes-requires : tie.Need-map-codes-requires
-map-codes-requires c κs = sym (c .before .is-usable .ensures) ∙ not-false _ (c .if1 .left)
+returns-2 : tie.Need-returns-2 Inv-loop μ-loop
+unfolding mapped-table
+returns-2 c =
+    let st : tie.Else1 Inv-loop μ-loop = search needs in
+    let lp : tie.At-loop Inv-loop μ-loop = search needs in
+    let pv : tie.After-pivots-of Inv-loop μ-loop = search needs in
+    let a = start st .args in
+    fill-all (mapped-code (a .h) (a .c)) (lp .loop .inv .1)
+    (λ j b k. mapped-is (a .h) (a .c) (component st) (a .h .bl + 8) (a .h .d) (pv .pivots-of .result) (pv .pivots-of .ensures) j ∙ sym (code-mapped (a .h) (a .c) (passed st) j (omega (arith, all st))))
+    (λ j b k. past-codes (a .h) (a .c) j (omega (arith, all st)))
 
 pub mapped-table-spec : {M : Type 1} → statement M
-mapped-table-spec = tie.close (tie.spec (λ c κs. search needs) returns map-codes-requires (λ c. search needs))
+mapped-table-spec =
+    tie.close
+    (tie.spec
+    Inv-loop
+    μ-loop
+    (λ c κs. search needs)
+    returns
+    (λ c. search needs)
+    (λ c. search needs)
+    (λ c. search needs)
+    (λ c. search needs)
+    pivots-of-requires
+    (λ c. search needs)
+    (λ c. let st : tie.Else1 Inv-loop μ-loop = search needs in omega (arith, header st .base-depth))
+    (λ c. let st : tie.Else1 Inv-loop μ-loop = search needs in omega (arith, all st, few st))
+    (λ c. (omega arith, fill-none 1024 _ 0 (λ j h. omega arith)))
+    (λ c. let st : tie.Else1 Inv-loop μ-loop = search needs in omega (arith, count st))
+    (λ c. let st : tie.Else1 Inv-loop μ-loop = search needs in omega (arith, count st))
+    (λ c. let st : tie.Else1 Inv-loop μ-loop = search needs in omega (arith, count st))
+    (λ c. let st : tie.Else1 Inv-loop μ-loop = search needs in omega (arith, count st))
+    (λ c κs. search needs)
+    (λ c κs. let st : tie.Else1 Inv-loop μ-loop = search needs in count st)
+    (λ c. let p : tie.After-piece-of Inv-loop μ-loop = search needs in omega (arith, low p))
+    (λ c. let p : tie.After-piece-of Inv-loop μ-loop = search needs in omega (arith, low p))
+    map-step-requires
+    (λ c. omega arith)
+    (λ c. let il : tie.In-loop Inv-loop μ-loop = search needs in omega (arith, inside il))
+    (λ c. let il : tie.In-loop Inv-loop μ-loop = search needs in omega (arith, inside il, il .before .loop .inv .1 .long))
+    (λ c. let il : tie.In-loop Inv-loop μ-loop = search needs in omega (arith, inside il))
+    (λ c. omega arith)
+    loop-again
+    returns-2)

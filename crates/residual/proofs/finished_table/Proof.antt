@@ -1,38 +1,66 @@
--- `residual::finished_table` meets its contract: zeros, or the table of the header's depth. Assumes nothing.
+-- `residual::finished_table` meets its contract: zeros, or a loop in which the places passed have their samples. Assumes nothing.
 use mathlib.Core.Path.{_≡_, sym, _∙_}
 use mathlib.Core.Bool.{true}
 use borrow.Author.Needs.{needs}
 use borrow.Author.Tests.{not-true, not-false}
+use Prim.Native.Nat.{_-_, _≤_}
 use native.Mathlib.Omega.{arith}
-use Rattle.runs.proofs.Tables.{zero-table}
+use lib.IntN.{pos}
+use Rattle.runs.specs.Runs.{at}
+use Rattle.runs.proofs.Tables.{Filled, fill-none, fill-more, fill-all, zero-table}
+use Rattle.standard.specs.Reconstruction.{reconstructed}
 use Rattle.plan.specs.Ranges.{header-fits}
 use Rattle.plan.proofs.Facts.{header-kept}
 use Rattle.residual.specs.Tables.{finished-code, finished-table}
-use Rattle.residual.proofs.Meaning.{finished-is, not-finished}
+use Rattle.residual.proofs.Meaning.{code-finished, not-finished}
 use Rattle.residual.proofs.finished_table.Statement.{statement}
 use Rattle.residual.proofs.finished_table.Tie as tie
 
-returns : tie.Need-returns
-unfolding finished-table
-returns c =
-    let st : tie.Start = search needs in
-    zero-table 1024 (finished-code (st .args .h) (st .args .mapped .now)) (not-finished (st .args .h) (sym (c .before .header-fits .ensures) ∙ not-true _ (c .if1 .taken)) (st .args .mapped .now))
+abbrev Inv-loop : tie.InvT-loop
+Inv-loop mapped out table₀ s₀ table s = (s ≤ 1024) × Filled 1024 (λ j. reconstructed out (at mapped j) (pos 0)) s table
 
-passed : (e : tie.Else1) → header-fits (e .before .before .args .h) ≡ true
+abbrev μ-loop : tie.MeasureT-loop
+μ-loop mapped out table₀ s₀ table s = 1024 - s
+
+passed : (e : tie.Else1 Inv-loop μ-loop) → header-fits (e .before .before .args .h) ≡ true
 passed e = sym (e .before .header-fits .ensures) ∙ not-false _ (e .if1 .left)
 
-returns-2 : tie.Need-returns-2
+returns : tie.Need-returns Inv-loop μ-loop
+unfolding finished-table
+returns c =
+    let st : tie.Start Inv-loop μ-loop = search needs in
+    zero-table 1024 (finished-code (st .args .h) (st .args .mapped .now)) (not-finished (st .args .h) (sym (c .before .header-fits .ensures) ∙ not-true _ (c .if1 .taken)) (st .args .mapped .now))
+
+loop-again : tie.Need-loop-again Inv-loop μ-loop
+loop-again c =
+    let lp : tie.At-loop Inv-loop μ-loop = search needs in
+    (omega arith, fill-more (lp .loop .inv .1) (omega arith) (c .finish .ensures))
+
+returns-2 : tie.Need-returns-2 Inv-loop μ-loop
+unfolding finished-table
 returns-2 c =
-    let e : tie.Else1 = search needs in
-    c .finish-codes .ensures ∙ finished-is (e .before .before .args .h) (passed e) (e .before .before .args .mapped .now)
+    let e : tie.Else1 Inv-loop μ-loop = search needs in
+    let lp : tie.At-loop Inv-loop μ-loop = search needs in
+    let a = e .before .before .args in
+    fill-all (finished-code (a .h) (a .mapped .now)) (lp .loop .inv .1) (λ j b k. sym (code-finished (a .h) (passed e) (a .mapped .now) j)) (λ j b k. omega arith)
 
 pub finished-table-spec : {M : Type 1} → statement M
 finished-table-spec =
     tie.close
     (tie.spec
+    Inv-loop
+    μ-loop
     (λ c κs. search needs)
     returns
     (λ c. search needs)
     (λ c. search needs)
-    (λ c κs. let e : tie.Else1 = search needs in (omega arith, omega (arith, header-kept _ (passed e) .out-depth)))
+    (λ c. (omega arith, fill-none 1024 _ 0 (λ j h. omega arith)))
+    (λ c. omega arith)
+    (λ c. omega arith)
+    (λ c κs. let e : tie.Else1 Inv-loop μ-loop = search needs in (omega arith, omega (arith, header-kept _ (passed e) .out-depth)))
+    (λ c. omega arith)
+    (λ c. omega arith)
+    (λ c. omega arith)
+    (λ c. omega arith)
+    loop-again
     returns-2)

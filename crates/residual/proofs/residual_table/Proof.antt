@@ -1,21 +1,131 @@
--- `residual::residual_table` meets its contract: zeros, or what every code comes to. Assumes nothing.
-use mathlib.Core.Path.{_≡_, sym, _∙_}
-use borrow.Author.Needs.{needs}
+-- `residual::residual_table` meets its contract: zeros, or a loop in which the codes passed have their raised residuals. Assumes nothing.
+use mathlib.Core.Path.{_≡_, sym, ap, _∙_}
+use mathlib.Core.Bool.{true}
+use borrow.Author.Needs.{needs, sfits-of}
 use borrow.Author.Tests.{not-true, not-false}
-use Rattle.runs.proofs.Tables.{zero-table}
+use Prim.Native.Nat.{ℕ, _+_, _-_, _^_, _<_, _≤_}
+use native.Mathlib.Omega.{arith}
+use lib.Pow.{pow-mono}
+use mir.Syntax.{w64}
+use mir.Val.{toZ, ofZ}
+use mir.Facts.{toZ-ofZ}
+use Rattle.runs.proofs.Tables.{Filled, fill-none, fill-more, fill-all, zero-table}
+use Rattle.standard.specs.Residual.{residual}
+use Rattle.plan.specs.Parameters.{quantization}
+use Rattle.plan.specs.Ranges.{header-fits}
+use Rattle.plan.specs.Rule7.{usable}
+use Rattle.plan.specs.Facts.{HeaderFacts, ComponentFacts}
+use Rattle.plan.proofs.Facts.{header-kept, component-facts}
+use Rattle.plan.proofs.Sizes.{arrays}
+use Rattle.plan.proofs.Truths.{both}
+use Rattle.residual.specs.Raising.{raised}
 use Rattle.residual.specs.Tables.{residual-code, residual-table}
-use Rattle.residual.proofs.Meaning.{not-usable}
+use Rattle.residual.proofs.Meaning.{code-raised, past-codes, not-usable}
 use Rattle.residual.proofs.residual_table.Statement.{statement}
 use Rattle.residual.proofs.residual_table.Tie as tie
 
-returns : tie.Need-returns
+abbrev Inv-loop : tie.InvT-loop
+Inv-loop el d out q codes table₀ e₀ table e = (e ≤ codes) × Filled 1024 (λ j. raised out (residual el d (quantization q) j)) e table
+
+abbrev μ-loop : tie.MeasureT-loop
+μ-loop el d out q codes table₀ e₀ table e = codes - e
+
+-- what the test of the component gives
+abbrev start : tie.Else1 Inv-loop μ-loop → tie.Start Inv-loop μ-loop
+start e = e .before .before
+
+passed : (st : tie.Else1 Inv-loop μ-loop) → usable (start st .args .h) (start st .args .c) ≡ true
+passed st = sym (st .before .is-usable .ensures) ∙ not-false _ (st .if1 .left)
+
+header : (st : tie.Else1 Inv-loop μ-loop) → HeaderFacts (start st .args .h)
+header st = header-kept (start st .args .h) (both (header-fits (start st .args .h)) _ (passed st) .0)
+
+component : (st : tie.Else1 Inv-loop μ-loop) → ComponentFacts (start st .args .h) (start st .args .c)
+component st = component-facts (start st .args .h) (start st .args .c) (arrays (start st .args .c) _ (start st .good .1 .0)) (both (header-fits (start st .args .h)) _ (passed st) .1)
+
+shallow : (st : tie.Else1 Inv-loop μ-loop) → (start st .args .h .el + 8 ≤ 10) × (start st .args .h .hdr + 8 ≤ 12)
+shallow st = (omega (arith, header st .base-depth, header st .same-depth), omega (arith, header st .out-depth))
+
+-- there are no more codes than places
+few : (c : tie.After-power Inv-loop μ-loop) → c .power .result ≤ 1024
+few c =
+    let st : tie.Else1 Inv-loop μ-loop = search needs in
+    omega (arith, c .power .ensures, pow-mono {i = start st .args .h .el + 8} {j = 10} (shallow st .0))
+
+inside : (c : tie.In-loop Inv-loop μ-loop) → c .before .loop .e < 1024
+inside c =
+    let p : tie.After-power Inv-loop μ-loop = search needs in
+    omega (arith, c .loop-test, few p)
+
+residual-of-requires : tie.Need-residual-of-requires Inv-loop μ-loop
+residual-of-requires c κs =
+    let st : tie.Else1 Inv-loop μ-loop = search needs in
+    let f = component st in
+    record {
+      shallow = shallow st .0;
+      fraction = header st .shallow;
+      deep = header st .deep;
+      maximum = f .maximum;
+      slope = f .slope;
+      threshold = f .threshold;
+    }
+
+-- the residual as `raise` is passed it
+read-back : (c : tie.After-residual-of Inv-loop μ-loop) → toZ w64 (ofZ w64 (c .residual-of .result)) ≡ c .residual-of .result
+read-back c = toZ-ofZ (sfits-of {w = w64} {z = c .residual-of .result} (c .residual-of .ok))
+
+raise-requires : tie.Need-raise-requires Inv-loop μ-loop
+raise-requires c κs =
+    let st : tie.Else1 Inv-loop μ-loop = search needs in
+    (shallow st .1, rw (read-back c) (c .residual-of .ensures .1))
+
+loop-again : tie.Need-loop-again Inv-loop μ-loop
+loop-again c =
+    let st : tie.Else1 Inv-loop μ-loop = search needs in
+    let lp : tie.At-loop Inv-loop μ-loop = search needs in
+    let il : tie.In-loop Inv-loop μ-loop = search needs in
+    let r : tie.After-residual-of Inv-loop μ-loop = search needs in
+    (omega arith, fill-more (lp .loop .inv .1) (inside il) (c .raise .ensures ∙ ap (raised (start st .args .h .hdr + 8)) (read-back r ∙ r .residual-of .ensures .0)))
+
+returns : tie.Need-returns Inv-loop μ-loop
 unfolding residual-table
 returns c =
-    let st : tie.Start = search needs in
+    let st : tie.Start Inv-loop μ-loop = search needs in
     zero-table 1024 (residual-code (st .args .h) (st .args .c)) (not-usable (st .args .h) (st .args .c) (sym (c .before .is-usable .ensures) ∙ not-true _ (c .if1 .taken)))
 
-raise-codes-requires : tie.Need-raise-codes-requires
-raise-codes-requires c κs = sym (c .before .is-usable .ensures) ∙ not-false _ (c .if1 .left)
+returns-2 : tie.Need-returns-2 Inv-loop μ-loop
+unfolding residual-table
+returns-2 c =
+    let st : tie.Else1 Inv-loop μ-loop = search needs in
+    let lp : tie.At-loop Inv-loop μ-loop = search needs in
+    let p : tie.After-power Inv-loop μ-loop = search needs in
+    let a = start st .args in
+    fill-all (residual-code (a .h) (a .c)) (lp .loop .inv .1)
+    (λ j b k. sym (code-raised (a .h) (a .c) (passed st) j (omega (arith, p .power .ensures))))
+    (λ j b k. past-codes (a .h) (a .c) j (omega (arith, p .power .ensures)))
 
 pub residual-table-spec : {M : Type 1} → statement M
-residual-table-spec = tie.close (tie.spec (λ c κs. search needs) returns raise-codes-requires (λ c. search needs))
+residual-table-spec =
+    tie.close
+    (tie.spec
+    Inv-loop
+    μ-loop
+    (λ c κs. search needs)
+    returns
+    (λ c. search needs)
+    (λ c. search needs)
+    (λ c. search needs)
+    (λ c. search needs)
+    (λ c. search needs)
+    (λ c κs. let st : tie.Else1 Inv-loop μ-loop = search needs in omega (arith, shallow st))
+    (λ c. omega (arith, few c))
+    (λ c. (omega arith, fill-none 1024 _ 0 (λ j h. omega arith)))
+    residual-of-requires
+    raise-requires
+    (λ c. omega arith)
+    (λ c. let il : tie.In-loop Inv-loop μ-loop = search needs in omega (arith, inside il))
+    (λ c. let il : tie.In-loop Inv-loop μ-loop = search needs in omega (arith, inside il, il .before .loop .inv .1 .long))
+    (λ c. let il : tie.In-loop Inv-loop μ-loop = search needs in omega (arith, inside il))
+    (λ c. omega arith)
+    loop-again
+    returns-2)
