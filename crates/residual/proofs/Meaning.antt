@@ -58,9 +58,9 @@ module _ (h : Header) (u : header-fits h ≡ true) where
   code-cut k = rw u
 
   -- for whoever looks a mapped sample, or a sum, up
-  pub finished-found : (mapped : List ℕ) (s : ℕ) → s < 1024 → at (finished-table h mapped) s ≡ reconstructed (hdr-depth h) (at mapped s) (pos 0)
+  pub finished-found : (mapped : List ℕ) (s : ℕ) → at (finished-table h mapped) (s % 1024) ≡ reconstructed (hdr-depth h) (at mapped (s % 1024)) (pos 0)
   unfolding finished-table
-  finished-found mapped s b = at-table 1024 (finished-code h mapped) s b ∙ code-finished mapped s
+  finished-found mapped s = at-table 1024 (finished-code h mapped) (s % 1024) (omega arith) ∙ code-finished mapped (s % 1024)
 
   pub cut-found : (v : ℕ) (r : ℤ) → v ≤ 65535 → at (cut-table h) ((v + raised (hdr-depth h) r) / 16 % 16384) ≡ reconstructed (hdr-depth h) v r
   unfolding cut-table
