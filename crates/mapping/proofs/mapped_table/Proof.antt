@@ -8,7 +8,7 @@ use native.Mathlib.Nat.{le-trans, lt-of-lt-of-le, mul-le-mul-left}
 use native.Mathlib.Omega.{arith}
 use lib.Pow.{pow-mono}
 use Rattle.runs.proofs.Tables.{Filled, fill-none, fill-more, fill-codes, no-codes}
-use Rattle.standard.specs.Mapping.{pivot-value, poly-sum, cut}
+use Rattle.standard.specs.Mapping.{poly-sum, cut}
 use Rattle.plan.specs.Ranges.{header-fits}
 use Rattle.plan.specs.Rule7.{usable}
 use Rattle.plan.specs.Facts.{HeaderFacts, ComponentFacts}
