@@ -1,16 +1,14 @@
 -- What stands in the table of mapped samples, and that summed pivots and rows of three give it. Assumes nothing.
-use mathlib.Core.Path.{_≡_, refl, sym, ap, ap₂, subst, _∙_}
-use mathlib.Core.Bool.{Bool, true, false, cond, _&&_}
+use mathlib.Core.Path.{_≡_, ap, ap₂, _∙_}
+use mathlib.Core.Bool.{true}
 use mathlib.Core.List.{List}
 use Prim.Native.Nat.{ℕ, _+_, _%_, _<_, _≤_, _^_}
 use native.Mathlib.Nat.{lt-of-lt-of-le, mod-eq-of-lt}
 use native.Mathlib.Omega.{arith}
-use lib.Dec.{ltb}
 use lib.Pow.{pow-mono}
-use borrow.Author.Tests.{lt-ltb, le-ltb}
 use Rattle.runs.specs.Runs.{at}
 use Rattle.runs.specs.Tables.{table}
-use Rattle.runs.proofs.Tables.{at-table}
+use Rattle.runs.proofs.Tables.{at-table, coded-in}
 use Rattle.standard.specs.Parameters.{Mapping}
 use Rattle.standard.specs.Mapping.{pivot-value, piece, clamped, mapped, polynomial, poly-sum, cut}
 use Rattle.standard.proofs.Pieces.{piece-cong}
@@ -18,12 +16,12 @@ use Rattle.standard.proofs.Polynomials.{by-three-terms}
 use Rattle.plan.specs.declared.Header.{Header}
 use Rattle.plan.specs.declared.Component.{Component}
 use Rattle.plan.specs.Parameters.{mapping}
-use Rattle.plan.specs.Ranges.{bl-depth}
+use Rattle.plan.specs.Ranges.{bl-depth, header-fits}
 use Rattle.plan.specs.Rule7.{usable}
-use Rattle.plan.specs.Facts.{HeaderFacts, ComponentFacts}
+use Rattle.plan.specs.Facts.{ComponentFacts}
 use Rattle.plan.proofs.Facts.{header-kept}
 use Rattle.plan.proofs.Truths.{both}
-use Rattle.mapping.specs.Mapped.{mapped-code, mapped-table}
+use Rattle.mapping.specs.Mapped.{mapped-table}
 use Rattle.mapping.specs.Steps.{coef, row-of, mapped-by}
 
 -- the three terms with summed pivots are the standard's mapping
@@ -44,30 +42,12 @@ pub lowest : (preds : List ℕ) {pivots : List ℕ} → pivots ≡ table 17 (piv
 unfolding pivot-value
 lowest preds q = ap (λ (l : List ℕ). at l 0) q ∙ at-table 17 (pivot-value (at preds)) 0 (omega arith)
 
--- a code of a component that can be computed with, and what is no code
-module _ (h : Header) (c : Component) where
-  pub code-mapped : usable h c ≡ true → (s : ℕ) → s < 2 ^ bl-depth h → mapped-code h c s ≡ mapped (bl-depth h) (h .d) (mapping c) s
-  unfolding mapped-code
-  code-mapped u s b = rw (u, lt-ltb s (2 ^ bl-depth h) b)
-
-  pub past-codes : (s : ℕ) → 2 ^ bl-depth h ≤ s → 0 ≡ mapped-code h c s
-  unfolding mapped-code
-  past-codes s b = rw (le-ltb s (2 ^ bl-depth h) b) (go (usable h c))
-    where
-      go : (u : Bool) → 0 ≡ cond (u && false) (mapped (bl-depth h) (h .d) (mapping c) s) 0
-      go true = refl
-      go false = refl
-
-  pub not-usable : usable h c ≡ false → (s : ℕ) → 0 ≡ mapped-code h c s
-  unfolding mapped-code
-  not-usable u s = rw u
-
-  -- for whoever looks a sample up
-  pub mapped-found : usable h c ≡ true → (s : ℕ) → s < 2 ^ bl-depth h → at (mapped-table h c) (s % 1024) ≡ mapped (bl-depth h) (h .d) (mapping c) s
-  unfolding mapped-table
-  mapped-found u s b =
-      let k : s < 1024 = lt-of-lt-of-le b (pow-mono {j = 10} (omega (arith, header-kept h (both _ _ u .0) .base-depth))) in
-      rw (mod-eq-of-lt k, at-table 1024 (mapped-code h c) s k) (code-mapped u s b)
+-- for whoever looks a sample up
+pub mapped-found : (h : Header) (c : Component) → usable h c ≡ true → (s : ℕ) → s < 2 ^ bl-depth h → at (mapped-table h c) (s % 1024) ≡ mapped (bl-depth h) (h .d) (mapping c) s
+unfolding mapped-table
+mapped-found h c u s b =
+    let k : s < 1024 = lt-of-lt-of-le b (pow-mono {j = 10} (omega (arith, header-kept h (both (header-fits h) _ u .0) .base-depth))) in
+    rw (mod-eq-of-lt k, at-table 1024 _ s k) (coded-in (2 ^ bl-depth h) _ s u b)
 
 pub mapped-le : (depth d : ℕ) (m : Mapping) (s : ℕ) → mapped depth d m s ≤ 65535
 unfolding mapped polynomial

@@ -1,15 +1,14 @@
 -- What stands in the three tables. Assumes nothing.
-use mathlib.Core.Path.{_≡_, refl, _∙_}
-use mathlib.Core.Bool.{Bool, true, false, cond, _&&_}
+use mathlib.Core.Path.{_≡_, _∙_}
+use mathlib.Core.Bool.{true, false}
 use mathlib.Core.List.{List}
 use Prim.Native.Nat.{ℕ, _+_, _/_, _%_, _<_, _≤_, _^_}
 use native.Mathlib.Nat.{lt-of-lt-of-le, mod-eq-of-lt}
 use native.Mathlib.Omega.{arith}
 use lib.IntN.{ℤ, pos}
 use lib.Pow.{pow-mono}
-use borrow.Author.Tests.{lt-ltb, le-ltb}
 use Rattle.runs.specs.Runs.{at}
-use Rattle.runs.proofs.Tables.{at-table}
+use Rattle.runs.proofs.Tables.{at-table, coded-in}
 use Rattle.standard.specs.Residual.{residual}
 use Rattle.standard.specs.Reconstruction.{reconstructed}
 use Rattle.plan.specs.declared.Header.{Header}
@@ -20,33 +19,16 @@ use Rattle.plan.specs.Rule7.{usable}
 use Rattle.plan.proofs.Facts.{header-kept}
 use Rattle.plan.proofs.Truths.{both}
 use Rattle.residual.specs.Raising.{raised, lowered}
-use Rattle.residual.specs.Tables.{residual-code, residual-table, finished-code, finished-table, cut-code, cut-table}
+use Rattle.residual.specs.Tables.{residual-table, finished-code, finished-table, cut-code, cut-table}
 use Rattle.residual.proofs.Raising.{lowered-raised, sum-less}
 
-module _ (h : Header) (c : Component) where
-  pub code-raised : usable h c ≡ true → (e : ℕ) → e < 2 ^ el-depth h → residual-code h c e ≡ raised (hdr-depth h) (residual (el-depth h) (h .d) (quantization (c .nlq)) e)
-  unfolding residual-code
-  code-raised u e b = rw (u, lt-ltb e (2 ^ el-depth h) b)
-
-  pub past-codes : (e : ℕ) → 2 ^ el-depth h ≤ e → 0 ≡ residual-code h c e
-  unfolding residual-code
-  past-codes e b = rw (le-ltb e (2 ^ el-depth h) b) (go (usable h c))
-    where
-      go : (u : Bool) → 0 ≡ cond (u && false) (raised (hdr-depth h) (residual (el-depth h) (h .d) (quantization (c .nlq)) e)) 0
-      go true = refl
-      go false = refl
-
-  pub not-usable : usable h c ≡ false → (e : ℕ) → 0 ≡ residual-code h c e
-  unfolding residual-code
-  not-usable u e = rw u
-
-  -- for whoever looks a sample up
-  pub raised-found : usable h c ≡ true → (e : ℕ) → e < 2 ^ el-depth h → at (residual-table h c) (e % 1024) ≡ raised (hdr-depth h) (residual (el-depth h) (h .d) (quantization (c .nlq)) e)
-  unfolding residual-table
-  raised-found u e b =
-      let f = header-kept h (both (header-fits h) _ u .0) in
-      let k : e < 1024 = lt-of-lt-of-le b (pow-mono {j = 10} (omega (arith, f .base-depth, f .same-depth))) in
-      rw (mod-eq-of-lt k, at-table 1024 (residual-code h c) e k) (code-raised u e b)
+-- for whoever looks an enhancement sample up
+pub raised-found : (h : Header) (c : Component) → usable h c ≡ true → (e : ℕ) → e < 2 ^ el-depth h → at (residual-table h c) (e % 1024) ≡ raised (hdr-depth h) (residual (el-depth h) (h .d) (quantization (c .nlq)) e)
+unfolding residual-table
+raised-found h c u e b =
+    let f = header-kept h (both (header-fits h) _ u .0) in
+    let k : e < 1024 = lt-of-lt-of-le b (pow-mono {j = 10} (omega (arith, f .base-depth, f .same-depth))) in
+    rw (mod-eq-of-lt k, at-table 1024 _ e k) (coded-in (2 ^ el-depth h) _ e u b)
 
 module _ (h : Header) (u : header-fits h ≡ true) where
   pub code-finished : (mapped : List ℕ) (s : ℕ) → finished-code h mapped s ≡ reconstructed (hdr-depth h) (at mapped s) (pos 0)
@@ -58,9 +40,9 @@ module _ (h : Header) (u : header-fits h ≡ true) where
   code-cut k = rw u
 
   -- for whoever looks a mapped sample, or a sum, up
-  pub finished-found : (mapped : List ℕ) (s : ℕ) → s < 1024 → at (finished-table h mapped) s ≡ reconstructed (hdr-depth h) (at mapped s) (pos 0)
+  pub finished-found : (mapped : List ℕ) (s : ℕ) → at (finished-table h mapped) (s % 1024) ≡ reconstructed (hdr-depth h) (at mapped (s % 1024)) (pos 0)
   unfolding finished-table
-  finished-found mapped s b = at-table 1024 (finished-code h mapped) s b ∙ code-finished mapped s
+  finished-found mapped s = at-table 1024 (finished-code h mapped) (s % 1024) (omega arith) ∙ code-finished mapped (s % 1024)
 
   pub cut-found : (v : ℕ) (r : ℤ) → v ≤ 65535 → at (cut-table h) ((v + raised (hdr-depth h) r) / 16 % 16384) ≡ reconstructed (hdr-depth h) v r
   unfolding cut-table

@@ -1,40 +1,19 @@
 -- The HDR sample by a raised residual and a cut sum is the standard's. Assumes nothing.
-use mathlib.Core.Path.{_≡_, refl, sym, ap, subst, _∙_}
-use mathlib.Core.Bool.{Bool, true, false, cond, true≢false}
+use mathlib.Core.Path.{_≡_, refl, sym, ap, _∙_}
+use mathlib.Core.Bool.{Bool, true, false, cond}
 use mathlib.Core.Logic.{_⊎_, inl, inr, ⊎-elim}
 use Prim.Native.Nat.{ℕ, suc, _+_, _-_, _*_, _/_, _^_, _<_, _≤_, min}
-use native.Mathlib.Nat.{le-trans, le-of-eq, add-zero, add-comm, mul-comm, mul-assoc, mul-sub, add-mul-div-right, div-le-self, div-lt-iff-lt-mul, le-div-iff-mul-le, div-div-eq-div-mul}
+use native.Mathlib.Nat.{add-zero, add-comm, mul-comm, mul-assoc, mul-sub, add-mul-div-right, div-le-self, div-lt-iff-lt-mul, le-div-iff-mul-le, div-div-eq-div-mul}
 use native.Mathlib.Omega.{arith}
-use lib.Dec.{T, ltb}
-use lib.IntN.{ℤ, pos, negsuc, natAbs, _+ℤ_, +ℤ-assoc}
+use lib.Dec.{ltb}
+use lib.IntN.{ℤ, pos, negsuc, _+ℤ_, +ℤ-assoc}
 use lib.Pow.{pow-pos, pow-add, pow-mono}
-use lib.Signed.{ltZ, shrZ, nonNeg}
-use borrow.Author.Tests.{ltb-true, ltb-false}
-use mir.Syntax.{w32}
-use mir.Val.{Fits}
+use lib.Signed.{shrZ}
+use borrow.Author.Tests.{ltb-false}
 use Rattle.runs.proofs.Between.{lt-or-ge}
-use Rattle.words.proofs.Holding.{Holds, Small, number}
 use Rattle.standard.specs.Mapping.{from-zero}
 use Rattle.standard.specs.Reconstruction.{reconstructed}
 use Rattle.residual.specs.Raising.{raised, lowered}
-
--- a call's result that is a power of two
-pub as-power : (k n : ℕ) {p : ℕ} → k ≤ n → Small (2 ^ n) → p ≡ 2 ^ k → Holds p (pos p) (2 ^ n)
-as-power k n h t e = number (le-trans (le-of-eq e) (pow-mono h)) t
-
--- a number against a bound
-pub over : (z : ℤ) (n : ℕ) → ltZ (pos n) z ≡ true → n < from-zero z
-over (pos a) n e = ltb-true n a e
-over (negsuc a) n e = absurd (true≢false (sym e))
-
-pub not-over : (z : ℤ) (n : ℕ) → ltZ (pos n) z ≡ false → from-zero z ≤ n
-not-over (pos a) n e = ltb-false n a e
-not-over (negsuc a) n e = omega arith
-
--- what is neither below 0 nor above 2 ^ 17 is cast to 32 bits
-pub cast-small : (z : ℤ) → ltZ z (pos 0) ≡ false → ltZ (pos 131072) z ≡ false → T (nonNeg z) × Fits w32 (natAbs z)
-cast-small (pos n) e k = (tt, record { fits = omega (arith, ltb-false 131072 n k) })
-cast-small (negsuc n) e k = absurd (true≢false e)
 
 -- a difference after the shift is one before it
 shifted : (x : ℤ) (k n : ℕ) → 0 < n → from-zero (shrZ x n) ≡ from-zero (x +ℤ pos (k * n)) / n - k
@@ -45,6 +24,7 @@ shifted (negsuc a) k n p = go (ltb (k * n) (suc a)) refl
     go true e = omega (arith, div-le-self 0 n)
     go false e = omega (arith, ltb-false (k * n) (suc a) e, div-lt-iff-lt-mul {x = k * n - suc a} {y = k} p .1 (omega (arith, ltb-false (k * n) (suc a) e)))
 
+-- a sum with a negative number is not above the other
 less : (v b : ℕ) → from-zero (pos v +ℤ negsuc b) ≤ v
 less v b = go (ltb v (suc b))
   where

@@ -1,11 +1,10 @@
 -- The inverse quantization (5.4.3.2) and the reconstruction (5.4.3.3) as tables; zeros where the header or the component cannot be computed with.
-use mathlib.Core.Bool.{cond, _&&_}
+use mathlib.Core.Bool.{cond}
 use mathlib.Core.List.{List}
 use Prim.Native.Nat.{ℕ, _^_}
-use lib.Dec.{ltb}
 use lib.IntN.{pos}
 use Rattle.runs.specs.Runs.{at}
-use Rattle.runs.specs.Tables.{table}
+use Rattle.runs.specs.Tables.{table, coded}
 use Rattle.standard.specs.Residual.{residual}
 use Rattle.standard.specs.Reconstruction.{reconstructed}
 use Rattle.plan.specs.declared.Header.{Header}
@@ -16,12 +15,10 @@ use Rattle.plan.specs.Rule7.{usable}
 use Rattle.residual.specs.Raising.{raised, lowered}
 
 -- the raised residual of every code that an enhancement layer sample can have; 0 past the codes
-unfoldable pub residual-code : Header → Component → ℕ → ℕ
-residual-code h c e =
-    cond (usable h c && ltb e (2 ^ el-depth h)) (raised (hdr-depth h) (residual (el-depth h) (h .d) (quantization (c .nlq)) e)) 0
-
 unfoldable pub residual-table : Header → Component → List ℕ
-residual-table h c = table 1024 (residual-code h c)
+residual-table h c =
+    table 1024
+    (coded (usable h c) (2 ^ el-depth h) (λ e. raised (hdr-depth h) (residual (el-depth h) (h .d) (quantization (c .nlq)) e)))
 
 -- the HDR sample of every mapped sample of a table, without residual
 unfoldable pub finished-code : Header → List ℕ → ℕ → ℕ

@@ -1,13 +1,15 @@
 -- What stands in a table, and an array of zeros that is filled from the front until it is a table. Assumes nothing.
 use mathlib.Core.Path.{_≡_, refl, sym, ap, subst, _∙_}
+use mathlib.Core.Bool.{Bool, true, false}
 use mathlib.Core.List.{List}
 use mathlib.Core.Logic.{⊎-elim}
 use Prim.Native.Nat.{ℕ, zero, suc, _+_, _<_, _≤_}
 use native.Mathlib.Nat.{le-of-suc-le-suc, not-suc-le-zero}
 use native.Mathlib.Omega.{arith}
+use borrow.Author.Tests.{lt-ltb, le-ltb}
 use lib.ListN.{length, getD, set, replicate, length-set, length-replicate}
 use lib.Seq.{ext-getD, getD-set-other}
-use Rattle.runs.specs.Tables.{table}
+use Rattle.runs.specs.Tables.{table, coded}
 use Rattle.runs.proofs.Between.{lt-or-ge}
 use Rattle.runs.proofs.Filling.{filled-more}
 
@@ -56,3 +58,22 @@ fill-all {n} {i} {f} {l} g h below above =
 
 pub zero-table : (n : ℕ) (g : ℕ → ℕ) → ((j : ℕ) → 0 ≡ g j) → replicate n 0 ≡ table n g
 zero-table n g z = fill-all g (fill-none n g 0 (λ j h. sym (z j))) (λ j h b. refl) (λ j h b. z j)
+
+-- a code, and what is none
+pub coded-in : (n : ℕ) (f : ℕ → ℕ) (s : ℕ) {u : Bool} → u ≡ true → s < n → coded u n f s ≡ f s
+unfolding coded
+coded-in n f s e b = rw (e, lt-ltb s n b)
+
+coded-past : (u : Bool) (n : ℕ) (f : ℕ → ℕ) (s : ℕ) → n ≤ s → 0 ≡ coded u n f s
+unfolding coded
+coded-past true n f s b = rw (le-ltb s n b)
+coded-past false n f s b = refl
+
+-- a table of codes: filled as far as there are codes, or zeros where they cannot be computed with
+pub fill-codes : {n i m : ℕ} {f : ℕ → ℕ} {l : List ℕ} {u : Bool} (g : ℕ → ℕ) → u ≡ true → i ≡ m → Filled n f i l → ((j : ℕ) → f j ≡ g j) → l ≡ table n (coded u m g)
+fill-codes {m = m} {u = u} g e k h same =
+    fill-all (coded u m g) h (λ j a b. same j ∙ sym (coded-in m g j e (omega arith))) (λ j a b. coded-past u m g j (omega arith))
+
+pub no-codes : (n m : ℕ) (g : ℕ → ℕ) {u : Bool} → u ≡ false → replicate n 0 ≡ table n (coded u m g)
+unfolding coded
+no-codes n m g {u} e = zero-table n (coded u m g) (λ j. rw e)

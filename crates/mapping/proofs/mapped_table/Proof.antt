@@ -7,8 +7,8 @@ use Prim.Native.Nat.{ℕ, _+_, _-_, _*_, _%_, _^_, _<_, _≤_}
 use native.Mathlib.Nat.{le-trans, lt-of-lt-of-le, mul-le-mul-left}
 use native.Mathlib.Omega.{arith}
 use lib.Pow.{pow-mono}
-use Rattle.runs.proofs.Tables.{Filled, fill-none, fill-more, fill-all, zero-table}
-use Rattle.standard.specs.Mapping.{pivot-value, poly-sum, cut}
+use Rattle.runs.proofs.Tables.{Filled, fill-none, fill-more, fill-codes, no-codes}
+use Rattle.standard.specs.Mapping.{poly-sum, cut}
 use Rattle.plan.specs.Ranges.{header-fits}
 use Rattle.plan.specs.Rule7.{usable}
 use Rattle.plan.specs.Facts.{HeaderFacts, ComponentFacts}
@@ -16,9 +16,9 @@ use Rattle.plan.proofs.Facts.{header-kept, component-facts}
 use Rattle.plan.proofs.Shifting.{one-shifted}
 use Rattle.plan.proofs.Sizes.{arrays}
 use Rattle.plan.proofs.Truths.{both}
-use Rattle.mapping.specs.Mapped.{mapped-code, mapped-table}
+use Rattle.mapping.specs.Mapped.{mapped-table}
 use Rattle.mapping.specs.Steps.{coef, row-of, mapped-by}
-use Rattle.mapping.proofs.Meaning.{lowest, mapped-is, code-mapped, past-codes, not-usable}
+use Rattle.mapping.proofs.Meaning.{lowest, mapped-is}
 use Rattle.mapping.proofs.mapped_table.Statement.{statement}
 use Rattle.mapping.proofs.mapped_table.Tie as tie
 
@@ -97,9 +97,7 @@ loop-again c =
 
 returns : tie.Need-returns Inv-loop μ-loop
 unfolding mapped-table
-returns c =
-    let st : tie.Start Inv-loop μ-loop = search needs in
-    zero-table 1024 (mapped-code (st .args .h) (st .args .c)) (not-usable (st .args .h) (st .args .c) (sym (c .before .is-usable .ensures) ∙ not-true _ (c .if1 .taken)))
+returns c = no-codes 1024 _ _ (sym (c .before .is-usable .ensures) ∙ not-true _ (c .if1 .taken))
 
 returns-2 : tie.Need-returns-2 Inv-loop μ-loop
 unfolding mapped-table
@@ -108,9 +106,8 @@ returns-2 c =
     let lp : tie.At-loop Inv-loop μ-loop = search needs in
     let pv : tie.After-pivots-of Inv-loop μ-loop = search needs in
     let a = start st .args in
-    fill-all (mapped-code (a .h) (a .c)) (lp .loop .inv .1)
-    (λ j b k. mapped-is (a .h) (a .c) (component st) (a .h .bl + 8) (a .h .d) (pv .pivots-of .result) (pv .pivots-of .ensures) j ∙ sym (code-mapped (a .h) (a .c) (passed st) j (omega (arith, all st))))
-    (λ j b k. past-codes (a .h) (a .c) j (omega (arith, all st)))
+    fill-codes _ (passed st) (omega (arith, all st)) (lp .loop .inv .1)
+    (mapped-is (a .h) (a .c) (component st) (a .h .bl + 8) (a .h .d) (pv .pivots-of .result) (pv .pivots-of .ensures))
 
 pub mapped-table-spec : {M : Type 1} → statement M
 mapped-table-spec =

@@ -1,15 +1,15 @@
 -- `residual::residual_table` meets its contract: zeros, or a loop in which the codes passed have their raised residuals. Assumes nothing.
-use mathlib.Core.Path.{_≡_, sym, ap, _∙_}
+use mathlib.Core.Path.{_≡_, refl, sym, ap, _∙_}
 use mathlib.Core.Bool.{true}
 use borrow.Author.Needs.{needs, sfits-of}
 use borrow.Author.Tests.{not-true, not-false}
-use Prim.Native.Nat.{ℕ, _+_, _-_, _^_, _<_, _≤_}
+use Prim.Native.Nat.{_+_, _-_, _<_, _≤_}
 use native.Mathlib.Omega.{arith}
 use lib.Pow.{pow-mono}
 use mir.Syntax.{w64}
 use mir.Val.{toZ, ofZ}
 use mir.Facts.{toZ-ofZ}
-use Rattle.runs.proofs.Tables.{Filled, fill-none, fill-more, fill-all, zero-table}
+use Rattle.runs.proofs.Tables.{Filled, fill-none, fill-more, fill-codes, no-codes}
 use Rattle.standard.specs.Residual.{residual}
 use Rattle.plan.specs.Parameters.{quantization}
 use Rattle.plan.specs.Ranges.{header-fits}
@@ -19,8 +19,7 @@ use Rattle.plan.proofs.Facts.{header-kept, component-facts}
 use Rattle.plan.proofs.Sizes.{arrays}
 use Rattle.plan.proofs.Truths.{both}
 use Rattle.residual.specs.Raising.{raised}
-use Rattle.residual.specs.Tables.{residual-code, residual-table}
-use Rattle.residual.proofs.Meaning.{code-raised, past-codes, not-usable}
+use Rattle.residual.specs.Tables.{residual-table}
 use Rattle.residual.proofs.residual_table.Statement.{statement}
 use Rattle.residual.proofs.residual_table.Tie as tie
 
@@ -89,9 +88,7 @@ loop-again c =
 
 returns : tie.Need-returns Inv-loop μ-loop
 unfolding residual-table
-returns c =
-    let st : tie.Start Inv-loop μ-loop = search needs in
-    zero-table 1024 (residual-code (st .args .h) (st .args .c)) (not-usable (st .args .h) (st .args .c) (sym (c .before .is-usable .ensures) ∙ not-true _ (c .if1 .taken)))
+returns c = no-codes 1024 _ _ (sym (c .before .is-usable .ensures) ∙ not-true _ (c .if1 .taken))
 
 returns-2 : tie.Need-returns-2 Inv-loop μ-loop
 unfolding residual-table
@@ -99,10 +96,7 @@ returns-2 c =
     let st : tie.Else1 Inv-loop μ-loop = search needs in
     let lp : tie.At-loop Inv-loop μ-loop = search needs in
     let p : tie.After-power Inv-loop μ-loop = search needs in
-    let a = start st .args in
-    fill-all (residual-code (a .h) (a .c)) (lp .loop .inv .1)
-    (λ j b k. sym (code-raised (a .h) (a .c) (passed st) j (omega (arith, p .power .ensures))))
-    (λ j b k. past-codes (a .h) (a .c) j (omega (arith, p .power .ensures)))
+    fill-codes _ (passed st) (omega (arith, p .power .ensures)) (lp .loop .inv .1) (λ j. refl)
 
 pub residual-table-spec : {M : Type 1} → statement M
 residual-table-spec =

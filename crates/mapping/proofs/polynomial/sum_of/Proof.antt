@@ -4,7 +4,7 @@ use borrow.Author.Needs.{needs}
 use Prim.Native.Nat.{ℕ, _-_, _*_, _^_, _≤_}
 use native.Mathlib.Nat.{le-of-lt, le-trans, le-of-eq, mul-le-mul}
 use native.Mathlib.Omega.{arith}
-use lib.IntN.{ℤ, natAbs, _+ℤ_, _*ℤ_, pos}
+use lib.IntN.{natAbs}
 use mir.Syntax.{w64}
 use mir.Val.{ofZ}
 use Rattle.standard.proofs.Weights.{weight-le, weight-one, weight-two}

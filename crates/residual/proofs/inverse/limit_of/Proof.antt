@@ -5,7 +5,7 @@ use Prim.Native.Nat.{ℕ, _-_, _+_, _^_}
 use native.Mathlib.Omega.{arith}
 use lib.IntN.{pos, _*ℤ_}
 use Rattle.words.proofs.Holding.{Holds, number, fit, mul, mul-asked}
-use Rattle.residual.proofs.Raising.{as-power}
+use Rattle.residual.proofs.Words.{as-power}
 use Rattle.residual.proofs.inverse.limit_of.Statement.{statement}
 use Rattle.residual.proofs.inverse.limit_of.Tie as tie
 

@@ -8,7 +8,7 @@ use mir.Syntax.{w64}
 use mir.Val.{ofZ}
 use Rattle.standard.proofs.Residuals.{scaled-by}
 use Rattle.words.proofs.Holding.{Holds, held, number, literal, fit, add, add-asked, sub, sub-asked, mul, mul-asked}
-use Rattle.residual.proofs.Raising.{as-power}
+use Rattle.residual.proofs.Words.{as-power}
 use Rattle.residual.proofs.inverse.scale.Statement.{statement}
 use Rattle.residual.proofs.inverse.scale.Tie as tie
 
