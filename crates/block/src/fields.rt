@@ -9,7 +9,7 @@ use plan::Header;
 ghost use mathlib.Core.Path.{_≡_};
 ghost use Prim.Native.Nat.{_+_, _^_, _<_, _≤_};
 ghost use lib.ListN.{length};
-ghost use Rattle.plan.specs.Facts.{HeaderFacts};
+ghost use Rattle.plan.specs.inner.Facts.{HeaderFacts};
 ghost use Rattle.block.specs.Sections.{signed, coefficient, unsigned};
 ghost use Rattle.block.specs.Cursors.{Reads, integer, method};
 

@@ -16,7 +16,7 @@ use section::section;
 ghost use mathlib.Core.Path.{_≡_};
 ghost use Prim.Native.Nat.{_≤_};
 ghost use lib.ListN.{length};
-ghost use Rattle.plan.specs.Facts.{HeaderFacts};
+ghost use Rattle.plan.specs.inner.Facts.{HeaderFacts};
 ghost use Rattle.block.specs.Reading.{refusal, sections, read};
 ghost use Rattle.block.specs.Facts.{Sound, LastBytes};
 ghost use Rattle.block.specs.Frames.{meant, Placed, Met, body};

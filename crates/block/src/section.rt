@@ -13,7 +13,7 @@ use plan::Piece;
 ghost use Prim.Native.Nat.{_+_, _≤_};
 ghost use lib.IntN.{pos};
 ghost use lib.ListN.{length};
-ghost use Rattle.plan.specs.Facts.{HeaderFacts};
+ghost use Rattle.plan.specs.inner.Facts.{HeaderFacts};
 ghost use Rattle.block.specs.Sections.{zero-piece, coefficient, piece, nlq, section};
 ghost use Rattle.block.specs.Cursors.{Reads, filled, pivot, Ended, fresh};
 

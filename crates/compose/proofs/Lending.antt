@@ -12,7 +12,7 @@ use Rattle.runs.specs.Runs.{at, painted, between, below}
 use Rattle.runs.proofs.Between.{in-between, between-empty, between-more}
 use Rattle.runs.proofs.Painting.{length-painted, painted-none}
 use Rattle.runs.proofs.Parts.{part, length-part, at-part, painted-part}
-use Rattle.spans.specs.Spans.{entry, cut-of, looked-up, added-up}
+use Rattle.spans.specs.inner.Spans.{entry, cut-of, looked-up, added-up}
 use Rattle.picture.specs.declared.Plane.{Plane}
 use Rattle.picture.specs.inner.Planes.{row-start, in-rows, InPlane}
 use Rattle.picture.proofs.Rows.{rows-more, rows-between}

@@ -3,7 +3,6 @@ use mathlib.Core.Path.{_≡_, refl, sym, ap, ap₂, subst, _∙_}
 use mathlib.Core.Bool.{Bool, true, false, _&&_, cond, true≢false}
 use mathlib.Core.List.{List}
 use Prim.Native.Nat.{ℕ, _+_, _%_, _^_, _<_, _≤_}
-use native.Mathlib.Nat.{mod-lt}
 use native.Mathlib.Omega.{arith}
 use lib.IntN.{ℤ, pos}
 use lib.ListN.{length, getD}
@@ -25,11 +24,11 @@ use Rattle.plan.specs.declared.Plan.{Plan}
 use Rattle.plan.specs.Parameters.{mapping, quantization}
 use Rattle.plan.specs.Ranges.{bl-depth, el-depth, hdr-depth, header-fits}
 use Rattle.plan.specs.Rule7.{usable, component-fits}
-use Rattle.mapping.specs.Mapped.{mapped-table}
+use Rattle.mapping.specs.inner.Mapped.{mapped-table}
 use Rattle.mapping.proofs.Meaning.{mapped-found, mapped-le}
-use Rattle.residual.specs.Tables.{residual-table, finished-table, cut-table}
+use Rattle.residual.specs.inner.Tables.{residual-table, finished-table, cut-table}
 use Rattle.residual.proofs.Meaning.{raised-found, finished-found, cut-found}
-use Rattle.spans.specs.Spans.{entry, cut-of, looked-up, added-up}
+use Rattle.spans.specs.inner.Spans.{entry, cut-of, looked-up, added-up}
 use Rattle.rules.specs.Rules.{extent, used}
 use Rattle.compose.specs.declared.rows.Rows.{Rows}
 use Rattle.compose.specs.Composing.{component-at, mapped-at, residual-at, composed-at}
@@ -53,7 +52,7 @@ module _ (h : Header) (c : Component) (p : Plane) (r : Rows) (ok : usable h c �
       painted-cong rows rows _ _ output (λ i b. refl)
       (λ i b s.
       ap (λ (t : List ℕ). entry t (at base i)) e
-      ∙ finished-found h (header-of h c ok) (mapped-table h c) (at base i % 1024) (mod-lt _ (omega arith))
+      ∙ finished-found h (header-of h c ok) (mapped-table h c) (at base i)
       ∙ ap (λ (v : ℕ). reconstructed (hdr-depth h) v (pos 0)) (mapped-found h c ok (at base i) (g .code i s)))
 
   pub enhanced-by-tables : (base enhancement mapped' raised' cuts : List ℕ) → CodesIn p r (2 ^ bl-depth h) base → CodesIn p r (2 ^ el-depth h) enhancement → mapped' ≡ mapped-table h c → raised' ≡ residual-table h c → cuts ≡ cut-table h → painted rows (added-up mapped' raised' cuts base enhancement) output ≡ painted rows (enhanced-at h c base enhancement) output

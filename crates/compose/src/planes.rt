@@ -21,7 +21,7 @@ ghost use Rattle.picture.specs.Picture.{in-pairs};
 ghost use Rattle.picture.specs.inner.Planes.{in-rows, InPicture};
 ghost use Rattle.plan.specs.Ranges.{bl-depth, el-depth};
 ghost use Rattle.plan.specs.Rule7.{usable, fitting};
-ghost use Rattle.residual.specs.Tables.{cut-table};
+ghost use Rattle.residual.specs.inner.Tables.{cut-table};
 ghost use Rattle.rules.specs.Rules.{extent};
 ghost use Rattle.compose.specs.inner.Rows.{RowsIn, CodesIn, CodesInPicture, plain-at, enhanced-at, by-component};
 

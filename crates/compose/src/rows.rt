@@ -6,7 +6,7 @@ ghost use mathlib.Core.Path.{_≡_};
 ghost use Prim.Native.Nat.{_+_};
 ghost use lib.ListN.{length};
 ghost use Rattle.runs.specs.Runs.{painted, between};
-ghost use Rattle.spans.specs.Spans.{looked-up, added-up};
+ghost use Rattle.spans.specs.inner.Spans.{looked-up, added-up};
 ghost use Rattle.picture.specs.inner.Planes.{row-start, in-rows, InPlane};
 ghost use Rattle.compose.specs.inner.Rows.{RowsIn};
 

@@ -7,7 +7,7 @@ use native.Mathlib.Nat.{lt-of-lt-of-le, mod-eq-of-lt}
 use native.Mathlib.Omega.{arith}
 use lib.Pow.{pow-mono}
 use Rattle.runs.specs.Runs.{at}
-use Rattle.runs.specs.Tables.{table}
+use Rattle.runs.specs.inner.Tables.{table}
 use Rattle.runs.proofs.Tables.{at-table, coded-in}
 use Rattle.standard.specs.Parameters.{Mapping}
 use Rattle.standard.specs.Mapping.{pivot-value, piece, clamped, mapped, polynomial, poly-sum, cut}
@@ -17,30 +17,30 @@ use Rattle.plan.specs.declared.Header.{Header}
 use Rattle.plan.specs.declared.Component.{Component}
 use Rattle.plan.specs.Parameters.{mapping}
 use Rattle.plan.specs.Ranges.{bl-depth, header-fits}
-use Rattle.plan.specs.Rule7.{usable}
-use Rattle.plan.specs.Facts.{ComponentFacts}
+use Rattle.plan.specs.Rule7.{pivot-places, usable}
+use Rattle.plan.specs.inner.Facts.{ComponentFacts}
 use Rattle.plan.proofs.Facts.{header-kept}
 use Rattle.plan.proofs.Truths.{both}
-use Rattle.mapping.specs.Mapped.{mapped-table}
-use Rattle.mapping.specs.Steps.{coef, row-of, mapped-by}
+use Rattle.mapping.specs.inner.Mapped.{mapped-table}
+use Rattle.mapping.specs.inner.Steps.{coef, row-of, mapped-by}
 
 -- the three terms with summed pivots are the standard's mapping
-pub mapped-is : (h : Header) (c : Component) → ComponentFacts h c → (depth d : ℕ) (pivots : List ℕ) → pivots ≡ table 17 (pivot-value (at (c .preds))) → (s : ℕ) → mapped-by depth d (c .n) pivots (c .pieces) s ≡ mapped depth d (mapping c) s
+pub mapped-is : (h : Header) (c : Component) → ComponentFacts h c → (depth d : ℕ) (pivots : List ℕ) → pivots ≡ table pivot-places (pivot-value (at (c .preds))) → (s : ℕ) → mapped-by depth d (c .n) pivots (c .pieces) s ≡ mapped depth d (mapping c) s
 unfolding mapped-by mapped
 mapped-is h c g depth d pivots q s =
     let n = c .n in
     let pv = pivot-value (at (c .preds)) in
     let p = piece pv n s in
-    let e : (i : ℕ) → i < 17 → at pivots i ≡ pv i = λ i b. ap (λ (l : List ℕ). at l i) q ∙ at-table 17 pv i b in
+    let e : (i : ℕ) → i < pivot-places → at pivots i ≡ pv i = λ i b. ap (λ (l : List ℕ). at l i) q ∙ at-table pivot-places pv i b in
     ap (λ (p : ℕ). cut d (poly-sum depth (clamped (at pivots 0) (at pivots (n + 1)) s) (coef (row-of (c .pieces) p)) 2))
     (piece-cong (at pivots) pv n s (λ i b. e i (omega (arith, g .count))))
     ∙ ap₂ (λ (a b : ℕ). cut d (poly-sum depth (clamped a b s) (coef (row-of (c .pieces) p)) 2)) (e 0 (omega arith)) (e (n + 1) (omega (arith, g .count)))
     ∙ by-three-terms depth d _ (clamped (pv 0) (pv (n + 1)) s) (coef (row-of (c .pieces) p)) (g .order p) (g .unused p)
 
 -- the first pivot is the first prediction
-pub lowest : (preds : List ℕ) {pivots : List ℕ} → pivots ≡ table 17 (pivot-value (at preds)) → at pivots 0 ≡ at preds 0
+pub lowest : (preds : List ℕ) {pivots : List ℕ} → pivots ≡ table pivot-places (pivot-value (at preds)) → at pivots 0 ≡ at preds 0
 unfolding pivot-value
-lowest preds q = ap (λ (l : List ℕ). at l 0) q ∙ at-table 17 (pivot-value (at preds)) 0 (omega arith)
+lowest preds q = ap (λ (l : List ℕ). at l 0) q ∙ at-table pivot-places (pivot-value (at preds)) 0 (omega arith)
 
 -- for whoever looks a sample up
 pub mapped-found : (h : Header) (c : Component) → usable h c ≡ true → (s : ℕ) → s < 2 ^ bl-depth h → at (mapped-table h c) (s % 1024) ≡ mapped (bl-depth h) (h .d) (mapping c) s

@@ -10,7 +10,7 @@ use plan::Header;
 use plan::is_usable;
 use polynomial::map_step;
 ghost use mathlib.Core.Path.{_≡_};
-ghost use Rattle.mapping.specs.Mapped.{mapped-table};
+ghost use Rattle.mapping.specs.inner.Mapped.{mapped-table};
 
 // The mapped sample of each code; zeros where the component cannot be computed with. The row of a code's piece goes by value
 // to the mapping step.

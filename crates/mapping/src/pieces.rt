@@ -1,19 +1,22 @@
 // The piece of a sample: the pivots (5.3.2), the search among them (5.4.2.2) and the clamp to them (5.4.2.3.2).
+use plan::limits::PIVOTS;
 ghost use mathlib.Core.Path.{_≡_};
 ghost use Prim.Native.Nat.{ℕ, _<_, _≤_, _^_};
 ghost use Rattle.runs.specs.Runs.{at};
-ghost use Rattle.runs.specs.Tables.{table};
+ghost use Rattle.runs.specs.inner.Tables.{table};
+ghost use Rattle.plan.specs.Ranges.{most-n};
+ghost use Rattle.plan.specs.Rule7.{pivot-places};
 ghost use Rattle.standard.specs.Mapping.{pivot-value, piece, clamped};
 
 // The pivots, each the sum of the predictions up to it. Predictions past the last pivot are 0.
-pub(crate) fn pivots_of(preds: [u16; 17]) -> [u16; 17]
+pub(crate) fn pivots_of(preds: [u16; PIVOTS]) -> [u16; PIVOTS]
     requires { ⌜ ((i : ℕ) → at preds i < 2 ^ 10) ⌝ }
-    ensures { λ r. ⌜ r ≡ table 17 (pivot-value (at preds)) ⌝ }
+    ensures { λ r. ⌜ r ≡ table pivot-places (pivot-value (at preds)) ⌝ }
 {
-    let mut pivots = [0u16; 17];
+    let mut pivots = [0u16; PIVOTS];
     let mut sum: u16 = 0;
     let mut i = 0;
-    while i < 17 {
+    while i < PIVOTS {
         sum += preds[i];
         pivots[i] = sum;
         i += 1;
@@ -22,8 +25,8 @@ pub(crate) fn pivots_of(preds: [u16; 17]) -> [u16; 17]
 }
 
 // The piece of a sample that is not clamped yet: the first whose next pivot is greater, or the last.
-pub(crate) fn piece_of(pivots: &[u16; 17], n: usize, s: u16) -> usize
-    requires { ⌜ n ≤ 15 ⌝ }
+pub(crate) fn piece_of(pivots: &[u16; PIVOTS], n: usize, s: u16) -> usize
+    requires { ⌜ n ≤ most-n ⌝ }
     ensures is { λ r. ⌜ r ≡ piece (at (now (pivots .entry))) n s ⌝ }
     ensures low { λ r. ⌜ r ≤ n ⌝ }
 {

@@ -3,7 +3,7 @@ ghost use mathlib.Core.Path.{_≡_};
 ghost use Prim.Native.Nat.{_*_, _≤_, _^_};
 ghost use lib.IntN.{pos};
 ghost use Rattle.standard.specs.Mapping.{poly-sum, cut};
-ghost use Rattle.mapping.specs.Steps.{coef, RowRanges};
+ghost use Rattle.mapping.specs.inner.Steps.{coef, RowRanges};
 
 // A number times a power of two.
 fn shifted(x: u64, shift: u32) -> i64

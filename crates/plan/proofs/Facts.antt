@@ -16,7 +16,7 @@ use Rattle.plan.specs.declared.Component.{Component}
 use Rattle.plan.specs.declared.Plan.{Plan}
 use Rattle.plan.specs.Ranges.{most-columns, most-pairs, format-tests, format-fits, size-tests, size-fits, header-fits, unsigned-fits}
 use Rattle.plan.specs.Rule7.{pivots-used, pieces-used, no-piece, row-fits, piece-fits, piece-empty, pivots-fit, pieces-fit, nlq-tests, nlq-fits, component-fits, usable, fitting, no-plan}
-use Rattle.plan.specs.Facts.{HeaderFacts, ComponentFacts, Arrays, Sized}
+use Rattle.plan.specs.inner.Facts.{HeaderFacts, ComponentFacts, Arrays, Sized}
 use Rattle.plan.proofs.Truths.{both, each, inside, either-le, every-at, place-below}
 use Rattle.plan.proofs.Anywhere.{anywhere}
 use Rattle.plan.proofs.Coefficients.{row-le, row-zero}

@@ -12,7 +12,7 @@ use Rattle.plan.specs.declared.Piece.{Piece}
 use Rattle.plan.specs.declared.Component.{Component}
 use Rattle.plan.specs.declared.Plan.{Plan}
 use Rattle.plan.specs.Rule7.{no-piece}
-use Rattle.plan.specs.Facts.{Arrays, Sized}
+use Rattle.plan.specs.inner.Facts.{Arrays, Sized}
 use Rattle.plan.proofs.Piece as piece
 use Rattle.plan.proofs.Component as component
 use Rattle.plan.proofs.Plan as plan

@@ -1,4 +1,4 @@
 pub mod Ranges
 pub mod Rule7
 pub mod Parameters
-pub mod Facts
+pub mod inner

@@ -14,7 +14,7 @@ ghost use mathlib.Core.Bool.{cond};
 ghost use lib.Dec.{eqb};
 ghost use Rattle.plan.specs.Ranges.{pivot-fits, coefficient-fits};
 ghost use Rattle.plan.specs.Rule7.{is-zero, row-fits, piece-fits, piece-empty, pivots-fit, pieces-fit, component-fits};
-ghost use Rattle.plan.specs.Facts.{HeaderFacts};
+ghost use Rattle.plan.specs.inner.Facts.{HeaderFacts};
 
 fn coefficient_place(h: Header, used: bool, z: i64) -> bool
     requires { ⌜ HeaderFacts h ⌝ }

@@ -9,7 +9,7 @@ ghost use Prim.Native.Nat.{_+_, _^_, _≤_};
 ghost use lib.Dec.{ltb, eqb};
 ghost use Rattle.plan.specs.Ranges.{listed-profile, format-fits, size-fits, header-fits, coefficient-fits, unsigned-fits};
 ghost use Rattle.plan.specs.Rule7.{nlq-fits};
-ghost use Rattle.plan.specs.Facts.{HeaderFacts};
+ghost use Rattle.plan.specs.inner.Facts.{HeaderFacts};
 
 fn profile_listed(v: u8) -> bool
     ensures { λ r. ⌜ r ≡ listed-profile v ⌝ }

@@ -18,8 +18,8 @@ use Rattle.plan.specs.Ranges.{el-depth, hdr-depth, header-fits}
 use Rattle.plan.specs.Rule7.{usable}
 use Rattle.plan.proofs.Facts.{header-kept}
 use Rattle.plan.proofs.Truths.{both}
-use Rattle.residual.specs.Raising.{raised, lowered}
-use Rattle.residual.specs.Tables.{residual-table, finished-code, finished-table, cut-code, cut-table}
+use Rattle.residual.specs.inner.Raising.{raised, lowered}
+use Rattle.residual.specs.inner.Tables.{residual-table, finished-code, finished-table, cut-code, cut-table}
 use Rattle.residual.proofs.Raising.{lowered-raised, sum-less}
 
 -- for whoever looks an enhancement sample up

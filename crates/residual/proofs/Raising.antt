@@ -13,7 +13,7 @@ use borrow.Author.Tests.{ltb-false}
 use Rattle.runs.proofs.Between.{lt-or-ge}
 use Rattle.standard.specs.Mapping.{from-zero}
 use Rattle.standard.specs.Reconstruction.{reconstructed}
-use Rattle.residual.specs.Raising.{raised, lowered}
+use Rattle.residual.specs.inner.Raising.{raised, lowered}
 
 -- a difference after the shift is one before it
 shifted : (x : ℤ) (k n : ℕ) → 0 < n → from-zero (shrZ x n) ≡ from-zero (x +ℤ pos (k * n)) / n - k

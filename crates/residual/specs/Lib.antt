@@ -1,3 +1,1 @@
-pub mod Raising
-pub mod Tables
-pub mod Steps
+pub mod inner

@@ -7,7 +7,7 @@ ghost use lib.IntN.{pos, natAbs, _-ℤ_};
 ghost use lib.Signed.{shrZ};
 ghost use Rattle.standard.specs.Residual.{sign-of, scaled, limit, limited, residual};
 ghost use Rattle.plan.specs.Parameters.{quantization};
-ghost use Rattle.residual.specs.Steps.{NlqRanges};
+ghost use Rattle.residual.specs.inner.Steps.{NlqRanges};
 
 fn distance(e: u16, offset: u16) -> i64
     ensures is { λ r. ⌜ r ≡ pos e -ℤ pos offset ⌝ }

@@ -12,7 +12,7 @@ use rounding::finish;
 use rounding::power;
 use rounding::raise;
 ghost use mathlib.Core.Path.{_≡_};
-ghost use Rattle.residual.specs.Tables.{residual-table, finished-table, cut-table};
+ghost use Rattle.residual.specs.inner.Tables.{residual-table, finished-table, cut-table};
 
 // The raised residual of each code.
 pub fn residual_table(h: Header, c: Component) -> [u32; 1024]

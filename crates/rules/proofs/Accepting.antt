@@ -16,7 +16,7 @@ use Rattle.picture.specs.inner.Planes.{InPicture}
 use Rattle.plan.specs.declared.Header.{Header}
 use Rattle.plan.specs.Ranges.{bl-depth, el-depth}
 use Rattle.plan.specs.Rule7.{fitting}
-use Rattle.plan.specs.Facts.{HeaderFacts}
+use Rattle.plan.specs.inner.Facts.{HeaderFacts}
 use Rattle.plan.proofs.Facts.{header-facts}
 use Rattle.rules.specs.Rules.{Given, extent, used, wrong-length, wrong-pairs, wrong-sample, rules, refusal}
 

@@ -11,7 +11,7 @@ ghost use mathlib.Core.Bool.{true};
 ghost use Prim.Native.Nat.{_+_, _≤_, _^_};
 ghost use lib.ListN.{length};
 ghost use Rattle.runs.specs.Runs.{between, some, at-least};
-ghost use Rattle.plan.specs.Facts.{HeaderFacts};
+ghost use Rattle.plan.specs.inner.Facts.{HeaderFacts};
 ghost use Rattle.picture.specs.Picture.{in-pairs};
 ghost use Rattle.picture.specs.inner.Planes.{in-rows, InPlane, InPicture};
 ghost use Rattle.rules.specs.Rules.{extent, used, wrong-sample};

@@ -9,7 +9,7 @@ use native.Mathlib.Omega.{arith}
 use borrow.Author.Tests.{lt-ltb, le-ltb}
 use lib.ListN.{length, getD, set, replicate, length-set, length-replicate}
 use lib.Seq.{ext-getD, getD-set-other}
-use Rattle.runs.specs.Tables.{table, coded}
+use Rattle.runs.specs.inner.Tables.{table, coded}
 use Rattle.runs.proofs.Between.{lt-or-ge}
 use Rattle.runs.proofs.Filling.{filled-more}
 

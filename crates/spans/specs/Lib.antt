@@ -1,1 +1,1 @@
-pub mod Spans
+pub mod inner

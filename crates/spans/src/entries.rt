@@ -1,7 +1,7 @@
 // What a table has for a number, whatever the number: the remainder is an index of the table.
 ghost use mathlib.Core.Path.{_≡_};
 ghost use Prim.Native.Nat.{_+_, min};
-ghost use Rattle.spans.specs.Spans.{entry, cut-of};
+ghost use Rattle.spans.specs.inner.Spans.{entry, cut-of};
 
 pub(crate) fn mapped_entry(table: &[u16; 1024], code: u16) -> u16
     ensures { λ r. ⌜ r ≡ entry (now (table .entry)) code ⌝ }

@@ -10,7 +10,7 @@ ghost use mathlib.Core.Path.{_≡_};
 ghost use Prim.Native.Nat.{min};
 ghost use lib.ListN.{length};
 ghost use Rattle.runs.specs.Runs.{painted, below, greatest};
-ghost use Rattle.spans.specs.Spans.{looked-up, added-up};
+ghost use Rattle.spans.specs.inner.Spans.{looked-up, added-up};
 
 // Writes what the table has for each sample.
 pub fn look_up(table: &[u16; 1024], base: &[u16], output: &mut [u16])

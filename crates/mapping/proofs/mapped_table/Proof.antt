@@ -9,15 +9,15 @@ use native.Mathlib.Omega.{arith}
 use lib.Pow.{pow-mono}
 use Rattle.runs.proofs.Tables.{Filled, fill-none, fill-more, fill-codes, no-codes}
 use Rattle.standard.specs.Mapping.{poly-sum, cut}
-use Rattle.plan.specs.Ranges.{header-fits}
-use Rattle.plan.specs.Rule7.{usable}
-use Rattle.plan.specs.Facts.{HeaderFacts, ComponentFacts}
+use Rattle.plan.specs.Ranges.{most-n, header-fits}
+use Rattle.plan.specs.Rule7.{piece-places, usable}
+use Rattle.plan.specs.inner.Facts.{HeaderFacts, ComponentFacts}
 use Rattle.plan.proofs.Facts.{header-kept, component-facts}
 use Rattle.plan.proofs.Shifting.{one-shifted}
 use Rattle.plan.proofs.Sizes.{arrays}
 use Rattle.plan.proofs.Truths.{both}
-use Rattle.mapping.specs.Mapped.{mapped-table}
-use Rattle.mapping.specs.Steps.{coef, row-of, mapped-by}
+use Rattle.mapping.specs.inner.Mapped.{mapped-table}
+use Rattle.mapping.specs.inner.Steps.{coef, row-of, mapped-by}
 use Rattle.mapping.proofs.Meaning.{lowest, mapped-is}
 use Rattle.mapping.proofs.mapped_table.Statement.{statement}
 use Rattle.mapping.proofs.mapped_table.Tie as tie
@@ -41,7 +41,7 @@ header st = header-kept (start st .args .h) (both (header-fits (start st .args .
 component : (st : tie.Else1 Inv-loop μ-loop) → ComponentFacts (start st .args .h) (start st .args .c)
 component st = component-facts (start st .args .h) (start st .args .c) (arrays (start st .args .c) _ (start st .good .1 .0)) (both (header-fits (start st .args .h)) _ (passed st) .1)
 
-count : (st : tie.Else1 Inv-loop μ-loop) → start st .args .c .n ≤ 15
+count : (st : tie.Else1 Inv-loop μ-loop) → start st .args .c .n ≤ most-n
 count st = component st .count
 
 -- there are 2 ^ depth codes, and no more than places
@@ -61,7 +61,7 @@ pivots-of-requires c κs =
     let st : tie.Else1 Inv-loop μ-loop = search needs in
     λ i. lt-of-lt-of-le (component st .pivot i) (few st)
 
-low : (c : tie.After-piece-of Inv-loop μ-loop) → c .piece-of .result < 17
+low : (c : tie.After-piece-of Inv-loop μ-loop) → c .piece-of .result < piece-places
 low c =
     let st : tie.Else1 Inv-loop μ-loop = search needs in
     omega (arith, c .piece-of .ensures .1, count st)

@@ -5,7 +5,7 @@ use borrow.Author.Needs.{needs}
 use borrow.Author.Tests.{not-true, not-false}
 use Rattle.plan.specs.Ranges.{header-fits}
 use Rattle.plan.specs.Rule7.{fitting}
-use Rattle.plan.specs.Facts.{HeaderFacts}
+use Rattle.plan.specs.inner.Facts.{HeaderFacts}
 use Rattle.plan.proofs.Facts.{header-kept}
 use Rattle.plan.proofs.passes.Statement.{statement}
 use Rattle.plan.proofs.passes.Tie as tie

@@ -9,8 +9,8 @@ use lib.Pow.{pow-pos, pow-mono}
 use Rattle.runs.proofs.Tables.{Filled, fill-none, fill-more, fill-all, zero-table}
 use Rattle.plan.specs.Ranges.{header-fits}
 use Rattle.plan.proofs.Facts.{header-kept}
-use Rattle.residual.specs.Raising.{lowered}
-use Rattle.residual.specs.Tables.{cut-code, cut-table}
+use Rattle.residual.specs.inner.Raising.{lowered}
+use Rattle.residual.specs.inner.Tables.{cut-code, cut-table}
 use Rattle.residual.proofs.Raising.{lowered-zero, lowered-ramp, lowered-most}
 use Rattle.residual.proofs.Meaning.{code-cut, no-cuts}
 use Rattle.residual.proofs.cut_table.Statement.{statement}

@@ -11,7 +11,7 @@ use Rattle.runs.proofs.Tables.{Filled, fill-none, fill-more, fill-all, zero-tab
 use Rattle.standard.specs.Reconstruction.{reconstructed}
 use Rattle.plan.specs.Ranges.{header-fits}
 use Rattle.plan.proofs.Facts.{header-kept}
-use Rattle.residual.specs.Tables.{finished-code, finished-table}
+use Rattle.residual.specs.inner.Tables.{finished-code, finished-table}
 use Rattle.residual.proofs.Meaning.{code-finished, not-finished}
 use Rattle.residual.proofs.finished_table.Statement.{statement}
 use Rattle.residual.proofs.finished_table.Tie as tie

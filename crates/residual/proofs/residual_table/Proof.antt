@@ -14,12 +14,12 @@ use Rattle.standard.specs.Residual.{residual}
 use Rattle.plan.specs.Parameters.{quantization}
 use Rattle.plan.specs.Ranges.{header-fits}
 use Rattle.plan.specs.Rule7.{usable}
-use Rattle.plan.specs.Facts.{HeaderFacts, ComponentFacts}
+use Rattle.plan.specs.inner.Facts.{HeaderFacts, ComponentFacts}
 use Rattle.plan.proofs.Facts.{header-kept, component-facts}
 use Rattle.plan.proofs.Sizes.{arrays}
 use Rattle.plan.proofs.Truths.{both}
-use Rattle.residual.specs.Raising.{raised}
-use Rattle.residual.specs.Tables.{residual-table}
+use Rattle.residual.specs.inner.Raising.{raised}
+use Rattle.residual.specs.inner.Tables.{residual-table}
 use Rattle.residual.proofs.residual_table.Statement.{statement}
 use Rattle.residual.proofs.residual_table.Tie as tie
 

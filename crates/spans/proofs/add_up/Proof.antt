@@ -4,7 +4,7 @@ use borrow.Author.Needs.{needs}
 use Prim.Native.Nat.{ℕ, _+_, _-_, _≤_}
 use native.Mathlib.Omega.{arith}
 use Rattle.runs.proofs.Painting.{PaintedTo, paint-none, paint-more, paint-all}
-use Rattle.spans.specs.Spans.{cut-of, added-up}
+use Rattle.spans.specs.inner.Spans.{cut-of, added-up}
 use Rattle.spans.proofs.add_up.Statement.{statement}
 use Rattle.spans.proofs.add_up.Tie as tie
 

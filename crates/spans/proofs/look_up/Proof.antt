@@ -3,7 +3,7 @@ use borrow.Author.Needs.{needs}
 use Prim.Native.Nat.{_-_, _≤_}
 use native.Mathlib.Omega.{arith}
 use Rattle.runs.proofs.Painting.{PaintedTo, paint-none, paint-more, paint-all}
-use Rattle.spans.specs.Spans.{looked-up}
+use Rattle.spans.specs.inner.Spans.{looked-up}
 use Rattle.spans.proofs.look_up.Statement.{statement}
 use Rattle.spans.proofs.look_up.Tie as tie
 

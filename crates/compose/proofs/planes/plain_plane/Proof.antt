@@ -1,7 +1,7 @@
 -- `compose::planes::plain_plane` meets its contract: the table that is looked up holds the standard's samples. Assumes nothing.
 use mathlib.Core.Path.{ap, _∙_}
 use borrow.Author.Needs.{needs}
-use Rattle.residual.specs.Tables.{finished-table}
+use Rattle.residual.specs.inner.Tables.{finished-table}
 use Rattle.compose.proofs.Meaning.{plain-by-table}
 use Rattle.compose.proofs.planes.plain_plane.Statement.{statement}
 use Rattle.compose.proofs.planes.plain_plane.Tie as tie

@@ -7,7 +7,7 @@ use lib.ListN.{length}
 use borrow.Author.Needs.{needs}
 use Rattle.runs.specs.Runs.{painted, between}
 use Rattle.runs.proofs.Painting.{length-painted}
-use Rattle.spans.specs.Spans.{added-up}
+use Rattle.spans.specs.inner.Spans.{added-up}
 use Rattle.picture.specs.inner.Planes.{in-rows}
 use Rattle.compose.proofs.Lending.{rows-begun, rows-on, row-of, row-of-painted, rows-ended}
 use Rattle.compose.proofs.rows.add_up_rows.Statement.{statement}

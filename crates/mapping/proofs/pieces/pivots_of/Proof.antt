@@ -4,6 +4,7 @@ use borrow.Author.Needs.{needs}
 use Prim.Native.Nat.{ℕ, _+_, _-_, _≤_, _^_}
 use native.Mathlib.Nat.{le-of-lt}
 use native.Mathlib.Omega.{arith}
+use Rattle.plan.specs.Rule7.{pivot-places}
 use Rattle.runs.specs.Runs.{at}
 use Rattle.runs.proofs.Tables.{Filled, fill-none, fill-more, fill-all}
 use Rattle.standard.specs.Mapping.{pivot-value}
@@ -13,13 +14,13 @@ use Rattle.mapping.proofs.pieces.pivots_of.Tie as tie
 
 abbrev Inv-loop : tie.InvT-loop
 Inv-loop preds pivots₀ sum₀ i₀ pivots sum i =
-    (i ≤ 17) × ((sum ≡ total (at preds) i) × Filled 17 (pivot-value (at preds)) i pivots)
+    (i ≤ pivot-places) × ((sum ≡ total (at preds) i) × Filled pivot-places (pivot-value (at preds)) i pivots)
 
 abbrev μ-loop : tie.MeasureT-loop
-μ-loop preds pivots₀ sum₀ i₀ pivots sum i = 17 - i
+μ-loop preds pivots₀ sum₀ i₀ pivots sum i = pivot-places - i
 
 loop-holds : tie.Need-loop-holds Inv-loop μ-loop
-loop-holds c = (omega arith, (total-none (at (c .args .t1)), fill-none 17 _ 0 (λ j h. omega arith)))
+loop-holds c = (omega arith, (total-none (at (c .args .t1)), fill-none pivot-places _ 0 (λ j h. omega arith)))
 
 add-sum : tie.Need-add-sum Inv-loop μ-loop
 add-sum c =

@@ -10,7 +10,7 @@ use mir.Val.{ofZ}
 use Rattle.standard.proofs.Weights.{weight-le, weight-one, weight-two}
 use Rattle.standard.proofs.Polynomials.{three-terms}
 use Rattle.words.proofs.Holding.{Holds, bounded, result, literal, add, add-asked, mul, mul-asked}
-use Rattle.mapping.specs.Steps.{coef}
+use Rattle.mapping.specs.inner.Steps.{coef}
 use Rattle.mapping.proofs.polynomial.sum_of.Statement.{statement}
 use Rattle.mapping.proofs.polynomial.sum_of.Tie as tie
 

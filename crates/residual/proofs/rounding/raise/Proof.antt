@@ -8,7 +8,7 @@ use mir.Syntax.{w64}
 use mir.Val.{ofZ, toZ}
 use Rattle.standard.proofs.Zero.{below-zero, not-below-zero}
 use Rattle.words.proofs.Holding.{Holds, held, literal, fit, add, add-asked}
-use Rattle.residual.specs.Raising.{raised}
+use Rattle.residual.specs.inner.Raising.{raised}
 use Rattle.residual.proofs.Words.{as-power, over, not-over, cast-small}
 use Rattle.residual.proofs.rounding.raise.Statement.{statement}
 use Rattle.residual.proofs.rounding.raise.Tie as tie

@@ -4,7 +4,7 @@ use mathlib.Core.List.{List}
 use Prim.Native.Nat.{ℕ, _^_}
 use lib.IntN.{pos}
 use Rattle.runs.specs.Runs.{at}
-use Rattle.runs.specs.Tables.{table, coded}
+use Rattle.runs.specs.inner.Tables.{table, coded}
 use Rattle.standard.specs.Residual.{residual}
 use Rattle.standard.specs.Reconstruction.{reconstructed}
 use Rattle.plan.specs.declared.Header.{Header}
@@ -12,7 +12,7 @@ use Rattle.plan.specs.declared.Component.{Component}
 use Rattle.plan.specs.Parameters.{quantization}
 use Rattle.plan.specs.Ranges.{el-depth, hdr-depth, header-fits}
 use Rattle.plan.specs.Rule7.{usable}
-use Rattle.residual.specs.Raising.{raised, lowered}
+use Rattle.residual.specs.inner.Raising.{raised, lowered}
 
 -- the raised residual of every code that an enhancement layer sample can have; 0 past the codes
 unfoldable pub residual-table : Header → Component → List ℕ

@@ -1,7 +1,7 @@
 -- The mapped sample of every code that a base layer sample can have (5.4.2), as a table.
 use mathlib.Core.List.{List}
 use Prim.Native.Nat.{ℕ, _^_}
-use Rattle.runs.specs.Tables.{table, coded}
+use Rattle.runs.specs.inner.Tables.{table, coded}
 use Rattle.standard.specs.Mapping.{mapped}
 use Rattle.plan.specs.declared.Header.{Header}
 use Rattle.plan.specs.declared.Component.{Component}

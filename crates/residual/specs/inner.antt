@@ -1,0 +1,3 @@
+pub mod Raising
+pub mod Steps
+pub mod Tables
