@@ -1,13 +1,14 @@
 // The residual (5.4.3.2) and the reconstruction (5.4.3.3), as tables of what every code, mapped sample and sum comes to.
 // Each is zeros where the header or the component cannot be computed with.
 mod inverse; // the inverse quantization of one enhancement layer sample
-mod rounding; // what the reconstruction does to a residual
+mod rounding; // the reconstruction of one HDR sample
 
 use inverse::residual_of;
 use plan::Component;
 use plan::Header;
 use plan::is_usable;
 use plan::ranges::header_fits;
+use rounding::finish;
 use rounding::power;
 use rounding::raise;
 ghost use mathlib.Core.Path.{_≡_};
@@ -34,8 +35,7 @@ pub fn residual_table(h: Header, c: Component) -> [u32; 1024]
     table
 }
 
-// The HDR sample of each mapped sample, where there is no residual. It is cut before it is rounded, in 16 bits throughout, so
-// that eight are finished at once.
+// The HDR sample of each mapped sample, where there is no residual.
 pub fn finished_table(h: Header, mapped: &[u16; 1024]) -> [u16; 1024]
     ensures { λ r. ⌜ r ≡ finished-table h (now (mapped .entry)) ⌝ }
 {
@@ -43,16 +43,10 @@ pub fn finished_table(h: Header, mapped: &[u16; 1024]) -> [u16; 1024]
         return [0u16; 1024];
     }
     let out = (h.hdr as u32) + 8;
-    let half = power(15 - out) as u16;
-    let room = 65535 - half;
     let mut table = [0u16; 1024];
     let mut s = 0;
     while s < 1024 {
-        let mut t = mapped[s];
-        if room < t {
-            t = room;
-        }
-        table[s] = (t + half) >> (16 - out);
+        table[s] = finish(out, mapped[s]);
         s += 1;
     }
     table
