@@ -15,9 +15,9 @@ use Rattle.plan.specs.Ranges.{bl-depth, el-depth}
 use Rattle.plan.proofs.Facts.{header-facts}
 use Rattle.rules.specs.Rules.{Given, extent, names, used, refusal}
 use Rattle.rules.proofs.Accepting.{Accepted, accepted, in-picture}
-use Rattle.compose.specs.declared.rows.Rows.{Rows}
+use Rattle.rows.specs.declared.Rows.{Rows}
 use Rattle.compose.specs.Composing.{composed-at, output-after, answer}
-use Rattle.compose.specs.inner.Rows.{CodesInPicture}
+use Rattle.compose.specs.inner.Samples.{CodesInPicture}
 
 abbrev Ends : Given → List ℕ → Outcome → List ℕ → Type 0
 Ends g output o after = (o ≡ answer g (length output)) × (after ≡ output-after g output)

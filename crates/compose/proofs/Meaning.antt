@@ -30,9 +30,9 @@ use Rattle.residual.specs.inner.Tables.{residual-table, finished-table, cut-tab
 use Rattle.residual.proofs.Meaning.{raised-found, finished-found, cut-found}
 use Rattle.spans.specs.inner.Spans.{entry, cut-of, looked-up, added-up}
 use Rattle.rules.specs.Rules.{extent, used}
-use Rattle.compose.specs.declared.rows.Rows.{Rows}
+use Rattle.rows.specs.declared.Rows.{Rows}
 use Rattle.compose.specs.Composing.{component-at, mapped-at, residual-at, composed-at}
-use Rattle.compose.specs.inner.Rows.{CodesIn, CodesInPicture, plain-at, enhanced-at, by-component}
+use Rattle.compose.specs.inner.Samples.{CodesIn, CodesInPicture, plain-at, enhanced-at, by-component}
 
 header-of : (h : Header) (c : Component) → usable h c ≡ true → header-fits h ≡ true
 header-of h c ok = go (header-fits h) (component-fits h c) ok

@@ -1,6 +1,5 @@
 // The composing process over pictures: row pairs of a base picture, perhaps with an enhancement picture, to HDR samples.
 mod planes; // plane by plane, by tables that are made once a call
-mod rows; // the row pairs of a plane
 
 use picture::picture_size as size_of;
 use plan::Header;

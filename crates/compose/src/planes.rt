@@ -1,7 +1,4 @@
 // Row pairs composed plane by plane: a plane's tables are made once a call, and its row pairs go by them.
-use crate::rows::Rows;
-use crate::rows::add_up_rows;
-use crate::rows::look_up_rows;
 use mapping::mapped_table;
 use picture::Plane;
 use picture::planes_of;
@@ -11,6 +8,9 @@ use plan::Plan;
 use residual::cut_table;
 use residual::finished_table;
 use residual::residual_table;
+use rows::Rows;
+use rows::add_up_rows;
+use rows::look_up_rows;
 use rules::extent_of;
 ghost use mathlib.Core.Path.{_≡_};
 ghost use mathlib.Core.Bool.{true};
@@ -23,7 +23,8 @@ ghost use Rattle.plan.specs.Ranges.{bl-depth, el-depth};
 ghost use Rattle.plan.specs.Rule7.{usable, fitting};
 ghost use Rattle.residual.specs.inner.Tables.{cut-table};
 ghost use Rattle.rules.specs.Rules.{extent};
-ghost use Rattle.compose.specs.inner.Rows.{RowsIn, CodesIn, CodesInPicture, plain-at, enhanced-at, by-component};
+ghost use Rattle.rows.specs.inner.Rows.{RowsIn};
+ghost use Rattle.compose.specs.inner.Samples.{CodesIn, CodesInPicture, plain-at, enhanced-at, by-component};
 
 fn plain_plane(h: Header, c: Component, p: Plane, r: Rows, base: &[u16], output: &mut [u16])
     requires { ⌜ usable h c ≡ true ⌝ }

@@ -1,10 +1,10 @@
 -- The row pairs of a picture are those of its three planes. Assumes nothing.
 use mathlib.Core.Path.{_≡_, refl, sym, ap, ap₂, _∙_}
-use mathlib.Core.Bool.{Bool, true, false, cond, _&&_, _||_, or-false, or-true, true≢false}
+use mathlib.Core.Bool.{Bool, true, false, cond, _&&_, _||_, or-false, or-true, and-false, true≢false}
 use mathlib.Core.List.{List}
-use mathlib.Core.Logic.{⊎-elim}
+use mathlib.Core.Logic.{_⊎_, inl, inr, ⊎-elim}
 use Prim.Native.Nat.{ℕ, _+_, _-_, _*_, _/_, _≤_, _<_}
-use native.Mathlib.Nat.{div-lt-iff-lt-mul, div-div-eq-div-mul, mul-comm, mul-assoc, mul-left-comm, mul-le-mul-left}
+use native.Mathlib.Nat.{le-div-iff-mul-le, div-lt-iff-lt-mul, div-div-eq-div-mul, mul-comm, mul-assoc, mul-left-comm, mul-le-mul-left}
 use native.Mathlib.Omega.{arith}
 use lib.Dec.{leb, ltb}
 use lib.ListN.{length}
@@ -16,7 +16,7 @@ use Rattle.runs.proofs.Testing.{some-cong, some-or}
 use Rattle.picture.specs.declared.Extent.{Extent}
 use Rattle.picture.specs.declared.Plane.{Plane}
 use Rattle.picture.specs.Picture.{width, luma-size, chroma-size, picture-size, of-plane, pair-at}
-use Rattle.picture.specs.inner.Planes.{luma-plane, cb-plane, cr-plane, row-start, in-rows, InPlane, InPicture}
+use Rattle.picture.specs.inner.Planes.{luma-plane, cb-plane, cr-plane, row-start, in-rows, lies, InPlane, InPicture}
 
 -- luma has four times the samples of a chroma plane
 pub luma-four : (e : Extent) → luma-size e ≡ 4 * chroma-size e
@@ -170,3 +170,42 @@ module _ (e : Extent) (some-columns : 1 ≤ e .columns) (selected : ℕ → Bool
       ∙ painted-over _ _ all run)
       ∙ painted-over _ _ all run
       ∙ painted-cong _ _ _ _ run (λ i b. in-planes i) (λ i b s. refl)
+
+-- ---- row pairs that lie within a run, by the test and by the facts
+pub lies-in : (p : Plane) (first last n : ℕ) → lies p first last n ≡ true → InPlane p first last n
+unfolding lies
+lies-in p first last n h =
+    let a = both (leb 1 (p .row)) _ h in
+    let b = both (leb first last) _ (a .1) in
+    record { some-columns = leb-true 1 _ (a .0); forward = leb-true first last (b .0); within = leb-true _ n (b .1) }
+
+pub in-lies : (p : Plane) (first last n : ℕ) → InPlane p first last n → lies p first last n ≡ true
+unfolding lies
+in-lies p first last n g = rw (le-leb 1 (p .row) (g .some-columns), le-leb first last (g .forward)) (le-leb (row-start p last) n (g .within))
+
+-- the ways that the test goes
+module _ (p : Plane) (first last n : ℕ) where
+  pub no-row : p .row ≡ 0 → false ≡ lies p first last n
+  unfolding lies
+  no-row e = rw e
+
+  pub backward : last < first → false ≡ lies p first last n
+  unfolding lies
+  backward h = rw (lt-leb first last h) (sym (and-false (leb 1 (p .row))))
+
+  pub beyond : n < p .start → false ≡ lies p first last n
+  unfolding lies
+  beyond h = let k : n < row-start p last = omega arith in rw (lt-leb (row-start p last) n k, and-false (leb first last)) (sym (and-false (leb 1 (p .row))))
+
+  pub by-quotient : (p .row ≡ 0 → ⊥) → first ≤ last → p .start ≤ n → leb last ((n - p .start) / p .row) ≡ lies p first last n
+  unfolding lies
+  by-quotient z f s =
+      let one : 1 ≤ p .row = omega arith in
+      rw (le-leb 1 (p .row) one, le-leb first last f)
+      (⊎-elim
+      (λ u. le-leb last _ (le-div-iff-mul-le one .1 (omega (arith, mul-comm last (p .row)))) ∙ sym (le-leb (row-start p last) n u))
+      (λ u. lt-leb last _ (div-lt-iff-lt-mul one .1 (omega (arith, mul-comm last (p .row)))) ∙ sym (lt-leb (row-start p last) n u))
+      (le-or-gt (row-start p last) n))
+    where
+      le-or-gt : (a b : ℕ) → (a ≤ b) ⊎ (b < a)
+      le-or-gt a b = ⊎-elim (λ h. inr h) (λ h. inl h) (lt-or-ge b a)

@@ -2,7 +2,7 @@
 ghost use mathlib.Core.Path.{_≡_};
 ghost use Prim.Native.Nat.{_*_, _≤_, _^_};
 ghost use Rattle.picture.specs.Picture.{picture-size};
-ghost use Rattle.picture.specs.inner.Planes.{planes};
+ghost use Rattle.picture.specs.inner.Planes.{planes, lies};
 
 // The size of a picture: W is twice `columns`, and H twice `pairs`. Whatever they are, no product of them wraps.
 pub struct Extent {
@@ -33,6 +33,25 @@ pub fn picture_size(e: Extent) -> usize
     ensures { λ r. ⌜ r ≡ picture-size e ⌝ }
 {
     6 * chroma_size(e.columns, e.pairs)
+}
+
+// Whether row pairs from `first` up to `last` of a plane lie within a run of n samples. The sum of their samples could wrap,
+// so it is not made.
+pub fn lies(p: Plane, first: usize, last: usize, n: usize) -> bool
+    ensures { λ r. ⌜ r ≡ lies p first last n ⌝ }
+{
+    let start = p.start;
+    let row = p.row;
+    if row == 0 {
+        return false;
+    }
+    if last < first {
+        return false;
+    }
+    if n < start {
+        return false;
+    }
+    last <= (n - start) / row
 }
 
 pub fn planes_of(e: Extent) -> Planes

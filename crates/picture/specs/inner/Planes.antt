@@ -29,6 +29,10 @@ row-start p k = p .start + p .row * k
 unfoldable pub in-rows : Plane → (ℕ → Bool) → ℕ → Bool
 in-rows p selected i = leb (p .start) i && selected ((i - p .start) / p .row)
 
+-- row pairs from `first` up to `last` lie within a run of n samples
+unfoldable pub lies : Plane → ℕ → ℕ → ℕ → Bool
+lies p first last n = leb 1 (p .row) && (leb first last && leb (row-start p last) n)
+
 -- row pairs from `first` up to `last` of a plane that lies within a run of n samples, and of a picture that is the run
 pub record InPlane (p : Plane) (first last n : ℕ) : Type 0 where
   pub some-columns : 1 ≤ p .row

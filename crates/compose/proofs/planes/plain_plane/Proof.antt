@@ -2,6 +2,7 @@
 use mathlib.Core.Path.{ap, _∙_}
 use borrow.Author.Needs.{needs}
 use Rattle.residual.specs.inner.Tables.{finished-table}
+use Rattle.rows.proofs.Lending.{all-looked-up}
 use Rattle.compose.proofs.Meaning.{plain-by-table}
 use Rattle.compose.proofs.planes.plain_plane.Statement.{statement}
 use Rattle.compose.proofs.planes.plain_plane.Tie as tie
@@ -13,6 +14,7 @@ returns c =
     let f : tie.After-finished-table = search needs in
     let l : tie.After-look-up-rows = search needs in
     l .look-up-rows .ensures
+    ∙ all-looked-up (s .args .p) (s .args .r) (s .args .base .now) (s .args .output .now) (s .pre .1 .0 .rows) (s .pre .1 .1) _
     ∙ plain-by-table (s .args .h) (s .args .c) (s .args .p) (s .args .r) (s .pre .0) _ _ _ (s .pre .1 .0)
     (f .finished-table .ensures ∙ ap (finished-table (s .args .h)) (m .mapped-table .ensures))
 

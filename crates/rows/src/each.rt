@@ -1,4 +1,5 @@
-// Row pairs of one plane, one after the other, by tables that are made once a call. Each row pair is a part of the runs.
+// One row pair after the other: each is a part of the runs, lent to a loop over slices.
+use crate::Rows;
 use picture::Plane;
 use spans::add_up;
 use spans::look_up;
@@ -8,13 +9,7 @@ ghost use lib.ListN.{length};
 ghost use Rattle.runs.specs.Runs.{painted, between};
 ghost use Rattle.spans.specs.inner.Spans.{looked-up, added-up};
 ghost use Rattle.picture.specs.inner.Planes.{row-start, in-rows, InPlane};
-ghost use Rattle.compose.specs.inner.Rows.{RowsIn};
-
-// The row pairs from `first` up to, but not including, `last`.
-pub(crate) struct Rows {
-    pub first: usize,
-    pub last: usize,
-}
+ghost use Rattle.rows.specs.inner.Rows.{RowsIn};
 
 fn look_up_row(table: &[u16; 1024], p: Plane, k: usize, base: &[u16], output: &mut [u16])
     requires { ⌜ InPlane p k (k + 1) (length (now base)) × InPlane p k (k + 1) (length (now output)) ⌝ }
@@ -25,7 +20,7 @@ fn look_up_row(table: &[u16; 1024], p: Plane, k: usize, base: &[u16], output: &m
     look_up(table, &base[a..b], &mut output[a..b]);
 }
 
-pub(crate) fn look_up_rows(table: &[u16; 1024], p: Plane, r: Rows, base: &[u16], output: &mut [u16])
+pub(crate) fn look_up_each(table: &[u16; 1024], p: Plane, r: Rows, base: &[u16], output: &mut [u16])
     requires { ⌜ RowsIn p r (now base) × RowsIn p r (now output) ⌝ }
     ensures { λ _. ⌜ now (output .exit) ≡ painted (in-rows p (between (r .first) (r .last))) (looked-up (now (table .entry)) (now (base .entry))) (now (output .entry)) ⌝ }
 {
@@ -62,7 +57,7 @@ fn add_up_row(
     );
 }
 
-pub(crate) fn add_up_rows(
+pub(crate) fn add_up_each(
     mapped: &[u16; 1024],
     raised: &[u32; 1024],
     cuts: &[u16; 16384],

@@ -12,20 +12,17 @@ use Rattle.standard.specs.Reconstruction.{reconstructed}
 use Rattle.picture.specs.declared.Extent.{Extent}
 use Rattle.picture.specs.declared.Plane.{Plane}
 use Rattle.picture.specs.Picture.{of-plane, in-pairs}
-use Rattle.picture.specs.inner.Planes.{in-rows, InPlane, InPicture}
+use Rattle.picture.specs.inner.Planes.{in-rows, InPicture}
 use Rattle.plan.specs.declared.Header.{Header}
 use Rattle.plan.specs.declared.Component.{Component}
 use Rattle.plan.specs.declared.Plan.{Plan}
 use Rattle.plan.specs.Ranges.{bl-depth, el-depth, hdr-depth}
 use Rattle.plan.specs.Parameters.{mapping, quantization}
 use Rattle.rules.specs.Rules.{extent}
-use Rattle.compose.specs.declared.rows.Rows.{Rows}
+use Rattle.rows.specs.declared.Rows.{Rows}
+use Rattle.rows.specs.inner.Rows.{RowsIn}
 
--- row pairs of a plane that lie in a run
-abbrev pub RowsIn : Plane → Rows → List ℕ → Type 0
-RowsIn p r run = InPlane p (r .first) (r .last) (length run)
-
--- and their samples are below a limit
+-- row pairs of a plane that lie in a run, and their samples are below a limit
 pub record CodesIn (p : Plane) (r : Rows) (limit : ℕ) (run : List ℕ) : Type 0 where
   pub rows : RowsIn p r run
   pub code : (i : ℕ) → in-rows p (between (r .first) (r .last)) i ≡ true → at run i < limit

@@ -1,4 +1,4 @@
--- `compose::rows::add_up_rows` meets its contract. The invariant: the row pairs before k are painted. Assumes nothing.
+-- `rows::each::look_up_each` meets its contract. The invariant: the row pairs before k are painted. Assumes nothing.
 use mathlib.Core.Path.{_≡_, ap, _∙_}
 use mathlib.Core.List.{[]}
 use Prim.Native.Nat.{_-_, _≤_}
@@ -7,36 +7,36 @@ use lib.ListN.{length}
 use borrow.Author.Needs.{needs}
 use Rattle.runs.specs.Runs.{painted, between}
 use Rattle.runs.proofs.Painting.{length-painted}
-use Rattle.spans.specs.inner.Spans.{added-up}
+use Rattle.spans.specs.inner.Spans.{looked-up}
 use Rattle.picture.specs.inner.Planes.{in-rows}
-use Rattle.compose.proofs.Lending.{rows-begun, rows-on, row-of, row-of-painted, rows-ended}
-use Rattle.compose.proofs.rows.add_up_rows.Statement.{statement}
-use Rattle.compose.proofs.rows.add_up_rows.Tie as tie
+use Rattle.rows.proofs.Lending.{rows-begun, rows-on, row-of, row-of-painted, rows-ended}
+use Rattle.rows.proofs.each.look_up_each.Statement.{statement}
+use Rattle.rows.proofs.each.look_up_each.Tie as tie
 
 abbrev Inv-loop : tie.InvT-loop
-Inv-loop mapped raised cuts p base enhancement output₀ last k₀ output k = (k₀ ≤ k) × ((k ≤ last) × (output ≡ painted (in-rows p (between k₀ k)) (added-up mapped raised cuts base enhancement) output₀))
+Inv-loop table p base output₀ last k₀ output k = (k₀ ≤ k) × ((k ≤ last) × (output ≡ painted (in-rows p (between k₀ k)) (looked-up table base) output₀))
 
 abbrev μ-loop : tie.MeasureT-loop
-μ-loop mapped raised cuts p base enhancement output₀ last k₀ output k = last - k
+μ-loop table p base output₀ last k₀ output k = last - k
 
 loop-holds : tie.Need-loop-holds Inv-loop μ-loop
 loop-holds c =
     let s : tie.Start Inv-loop μ-loop = search needs in
     (omega arith, (s .pre .0 .forward, rows-begun _ _ _ _ (s .pre .0) _ _))
 
-add-up-row-requires : tie.Need-add-up-row-requires Inv-loop μ-loop
-add-up-row-requires c κs =
+look-up-row-requires : tie.Need-look-up-row-requires Inv-loop μ-loop
+look-up-row-requires c κs =
     let s : tie.Start Inv-loop μ-loop = search needs in
     let a : tie.At-loop Inv-loop μ-loop = search needs in
     let b : tie.In-loop Inv-loop μ-loop = search needs in
-    (row-of _ _ _ _ (s .pre .0) (λ i. i) [] _ (a .loop .inv .0) (b .loop-test .taken), (row-of _ _ _ _ (s .pre .1 .0) (λ i. i) [] _ (a .loop .inv .0) (b .loop-test .taken), row-of-painted _ _ _ _ _ _ _ (s .pre .1 .1) (a .loop .inv .1 .1) _ (a .loop .inv .0) (b .loop-test .taken)))
+    (row-of _ _ _ _ (s .pre .0) (λ i. i) [] _ (a .loop .inv .0) (b .loop-test .taken), row-of-painted _ _ _ _ _ _ _ (s .pre .1) (a .loop .inv .1 .1) _ (a .loop .inv .0) (b .loop-test .taken))
 
 loop-again : tie.Need-loop-again Inv-loop μ-loop
 loop-again c =
     let s : tie.Start Inv-loop μ-loop = search needs in
     let a : tie.At-loop Inv-loop μ-loop = search needs in
-    let r : tie.After-add-up-row Inv-loop μ-loop = search needs in
-    (omega arith, (omega arith, rows-on _ _ _ _ (s .pre .0) _ _ _ _ _ (a .loop .inv .0) (a .loop .inv .1 .1) (r .add-up-row .ensures)))
+    let r : tie.After-look-up-row Inv-loop μ-loop = search needs in
+    (omega arith, (omega arith, rows-on _ _ _ _ (s .pre .0) _ _ _ _ _ (a .loop .inv .0) (a .loop .inv .1 .1) (r .look-up-row .ensures)))
 
 same-length : tie.Need-same-length Inv-loop μ-loop
 same-length c = let a : tie.At-loop Inv-loop μ-loop = search needs in ap length (a .loop .inv .1 .1) ∙ length-painted _ _ _
@@ -46,14 +46,14 @@ returns c =
     let a : tie.At-loop Inv-loop μ-loop = search needs in
     rows-ended _ _ _ _ _ _ _ (a .loop .inv .1 .0) (c .loop-test .left) (a .loop .inv .1 .1)
 
-pub add-up-rows-spec : {M : Type 1} → statement M
-add-up-rows-spec =
+pub look-up-each-spec : {M : Type 1} → statement M
+look-up-each-spec =
     tie.close
     (tie.spec
     Inv-loop
     μ-loop
     loop-holds
-    add-up-row-requires
+    look-up-row-requires
     (λ c. search needs)
     (λ c. search needs)
     loop-again

@@ -1,8 +1,8 @@
--- `compose::rows::add_up_row` meets its contract. Assumes nothing.
+-- `rows::each::add_up_row` meets its contract. Assumes nothing.
 use borrow.Author.Needs.{needs}
-use Rattle.compose.proofs.Lending.{added-up-row}
-use Rattle.compose.proofs.rows.add_up_row.Statement.{statement}
-use Rattle.compose.proofs.rows.add_up_row.Tie as tie
+use Rattle.rows.proofs.Lending.{added-up-row}
+use Rattle.rows.proofs.each.add_up_row.Statement.{statement}
+use Rattle.rows.proofs.each.add_up_row.Tie as tie
 
 returns : tie.Need-returns
 returns c =

@@ -1,6 +1,6 @@
 -- A row pair of a plane is lent as a part of each run, and what comes back is the run painted there; and so on, row pair by row pair. Assumes nothing.
 use mathlib.Core.Path.{_≡_, refl, sym, ap, ap₂, subst, _∙_}
-use mathlib.Core.Bool.{Bool, true, false, _||_}
+use mathlib.Core.Bool.{Bool, true, false, _||_, _&&_, cond, true≢false}
 use mathlib.Core.List.{List}
 use Prim.Native.Nat.{ℕ, _+_, _-_, _*_, _%_, _<_, _≤_, min}
 use native.Mathlib.Nat.{mul-add, mul-le-mul-left}
@@ -16,6 +16,9 @@ use Rattle.spans.specs.inner.Spans.{entry, cut-of, looked-up, added-up}
 use Rattle.picture.specs.declared.Plane.{Plane}
 use Rattle.picture.specs.inner.Planes.{row-start, in-rows, InPlane}
 use Rattle.picture.proofs.Rows.{rows-more, rows-between}
+use Rattle.picture.proofs.Three.{lies-in, in-lies}
+use Rattle.rows.specs.declared.Rows.{Rows}
+use Rattle.rows.specs.inner.Rows.{RowsIn, lie, looked-up-rows, added-up-rows}
 
 -- where row pair k ends
 row-end : (p : Plane) (k : ℕ) → row-start p k + p .row ≡ row-start p (k + 1)
@@ -83,3 +86,38 @@ row-of-painted p first last s f l now g e k h b =
 -- after the last one
 pub rows-ended : (p : Plane) (first last k : ℕ) (f : ℕ → ℕ) (l now : List ℕ) → k ≤ last → last ≤ k → now ≡ painted (in-rows p (between first k)) f l → now ≡ painted (in-rows p (between first last)) f l
 rows-ended p first last k f l now a b e = let q : k ≡ last = omega arith in e ∙ ap (λ (n : ℕ). painted (in-rows p (between first n)) f l) q
+
+-- ---- the whole, where the row pairs lie within the runs, and where they do not
+both : (a b : Bool) → (a && b) ≡ true → (a ≡ true) × (b ≡ true)
+both true b h = (refl, h)
+both false b h = absurd (true≢false (sym h))
+
+module _ (p : Plane) (r : Rows) where
+  -- of two tests, that were made of two runs
+  pub lie-both : (x y : Bool) (k l : List ℕ) → x ≡ lie p r k → y ≡ lie p r l → (x && y) ≡ true → RowsIn p r k × RowsIn p r l
+  lie-both x y k l e f h =
+      let t = both x y h in
+      (lies-in p _ _ _ (sym e ∙ t .0), lies-in p _ _ _ (sym f ∙ t .1))
+
+  pub lie-three : (x y z : Bool) (k l m : List ℕ) → x ≡ lie p r k → y ≡ lie p r l → z ≡ lie p r m → (x && (y && z)) ≡ true → RowsIn p r k × (RowsIn p r l × RowsIn p r m)
+  lie-three x y z k l m e f g h =
+      let t = both x (y && z) h in
+      (lies-in p _ _ _ (sym e ∙ t .0), lie-both y z l m f g (t .1))
+
+  pub not-looked-up : (x y : Bool) (table k l : List ℕ) → x ≡ lie p r k → y ≡ lie p r l → (x && y) ≡ false → l ≡ looked-up-rows table p r k l
+  unfolding looked-up-rows
+  not-looked-up x y table k l e f h = let q : (lie p r k && lie p r l) ≡ false = sym (ap₂ _&&_ e f) ∙ h in rw q
+
+  pub not-added-up : (x y z : Bool) (mapped raised cuts k l m : List ℕ) → x ≡ lie p r k → y ≡ lie p r l → z ≡ lie p r m → (x && (y && z)) ≡ false → m ≡ added-up-rows mapped raised cuts p r k l m
+  unfolding added-up-rows
+  not-added-up x y z mapped raised cuts k l m e f g h = let q : (lie p r k && (lie p r l && lie p r m)) ≡ false = sym (ap₂ _&&_ e (ap₂ _&&_ f g)) ∙ h in rw q
+
+-- for whoever knows that they lie within the runs
+module _ (p : Plane) (r : Rows) (base output : List ℕ) (b : RowsIn p r base) (o : RowsIn p r output) where
+  pub all-looked-up : (table : List ℕ) → looked-up-rows table p r base output ≡ painted (in-rows p (between (r .first) (r .last))) (looked-up table base) output
+  unfolding looked-up-rows
+  all-looked-up table = rw (in-lies p _ _ _ b, in-lies p _ _ _ o)
+
+  pub all-added-up : (mapped raised cuts enhancement : List ℕ) → RowsIn p r enhancement → added-up-rows mapped raised cuts p r base enhancement output ≡ painted (in-rows p (between (r .first) (r .last))) (added-up mapped raised cuts base enhancement) output
+  unfolding added-up-rows
+  all-added-up mapped raised cuts enhancement e = rw (in-lies p _ _ _ b, in-lies p _ _ _ e, in-lies p _ _ _ o)

@@ -1,0 +1,29 @@
+-- What the functions over the row pairs of a plane ask and give: the row pairs by tables, where they lie within every run.
+use mathlib.Core.Bool.{Bool, _&&_, cond}
+use mathlib.Core.List.{List}
+use Prim.Native.Nat.{ℕ}
+use lib.ListN.{length}
+use Rattle.runs.specs.Runs.{painted, between}
+use Rattle.spans.specs.inner.Spans.{looked-up, added-up}
+use Rattle.picture.specs.declared.Plane.{Plane}
+use Rattle.picture.specs.inner.Planes.{in-rows, lies, InPlane}
+use Rattle.rows.specs.declared.Rows.{Rows}
+
+-- row pairs of a plane that lie in a run
+abbrev pub RowsIn : Plane → Rows → List ℕ → Type 0
+RowsIn p r run = InPlane p (r .first) (r .last) (length run)
+
+abbrev pub lie : Plane → Rows → List ℕ → Bool
+lie p r run = lies p (r .first) (r .last) (length run)
+
+unfoldable pub looked-up-rows : List ℕ → Plane → Rows → List ℕ → List ℕ → List ℕ
+looked-up-rows table p r base output =
+    cond (lie p r base && lie p r output)
+    (painted (in-rows p (between (r .first) (r .last))) (looked-up table base) output)
+    output
+
+unfoldable pub added-up-rows : List ℕ → List ℕ → List ℕ → Plane → Rows → List ℕ → List ℕ → List ℕ → List ℕ
+added-up-rows mapped raised cuts p r base enhancement output =
+    cond (lie p r base && (lie p r enhancement && lie p r output))
+    (painted (in-rows p (between (r .first) (r .last))) (added-up mapped raised cuts base enhancement) output)
+    output
