@@ -60,6 +60,9 @@ settled =
       largest = λ κs a r r' s s' p q. p ∙ sym q;
       looked-up-output = λ κs a r r' s s' p q. p ∙ sym (q);
       added-up-output = λ κs a r r' s s' p q. p ∙ sym (q);
+      looked-up-rows = λ κs a r r' s s' p q. p ∙ sym q;
+      added-up-rows = λ κs a r r' s s' p q. p ∙ sym q;
+      lies = λ κs a r r' s s' p q. p ∙ sym q;
       mapped-table = λ κs a r r' s s' p q. p ∙ sym q;
       residual-table = λ κs a r r' s s' p q. p ∙ sym q;
       finished-table = λ κs a r r' s s' p q. p ∙ sym q;
@@ -76,4 +79,7 @@ settled =
       job-marks = λ κs a r r' s s' p q. p .1 .1 ∙ sym (q .1 .1);
       job-number = λ κs a r r' s s' p q. p ∙ sym q;
       is-complete = λ κs a r r' s s' p q. p ∙ sym q;
+      speed-job = λ κs a r r' s s' p q. p .0 ∙ sym (q .0);
+      speed-output = λ κs a r r' s s' p q. p .1 .0 ∙ sym (q .1 .0);
+      speed-marks = λ κs a r r' s s' p q. p .1 .1 ∙ sym (q .1 .1);
     }

@@ -4,8 +4,8 @@ use mathlib.Core.Path.{_≡_}
 use mathlib.Core.List.{List}
 use Prim.Native.Nat.{ℕ}
 use denote.Ref.{now}
-use Rattle.plan.proofs.passes.Reads as passes-promise
-use Rattle.plan.proofs.is_usable.Reads as is-usable-promise
+use Rattle.rule_seven.proofs.passes.Reads as passes-promise
+use Rattle.rule_seven.proofs.is_usable.Reads as is-usable-promise
 use Rattle.plan.proofs.ranges.header_fits.Reads as header-fits-promise
 use Rattle.plan.proofs.empty.Reads as empty-promise
 use Rattle.block.proofs.read.Reads as read-promise
@@ -17,6 +17,10 @@ use Rattle.rules.proofs.refusal_of.Reads as refusal-of-promise
 use Rattle.spans.proofs.largest.Reads as largest-promise
 use Rattle.spans.proofs.look_up.Reads as look-up-promise
 use Rattle.spans.proofs.add_up.Reads as add-up-promise
+use Rattle.picture.proofs.lies.Reads as lies-promise
+use Rattle.rows.proofs.look_up_rows.Reads as look-up-rows-promise
+use Rattle.rows.proofs.add_up_rows.Reads as add-up-rows-promise
+use Rattle.speed.proofs.speed_job.Reads as speed-job-promise
 use Rattle.mapping.proofs.mapped_table.Reads as mapped-table-promise
 use Rattle.residual.proofs.residual_table.Reads as residual-table-promise
 use Rattle.residual.proofs.finished_table.Reads as finished-table-promise
@@ -53,6 +57,9 @@ pub record Settled : Type 0 where
   pub largest : OneAnswer largest-promise.Post
   pub looked-up-output : OneContent look-up-promise.Post (λ κs s. now (s .1 .1 .0))
   pub added-up-output : OneContent add-up-promise.Post (λ κs s. now (s .1 .1 .1 .1 .1 .0))
+  pub looked-up-rows : OneContent look-up-rows-promise.Post (λ κs s. now (s .1 .1 .1 .1 .0))
+  pub added-up-rows : OneContent add-up-rows-promise.Post (λ κs s. now (s .1 .1 .1 .1 .1 .1 .1 .0))
+  pub lies : OneAnswer lies-promise.Post
   pub mapped-table : OneAnswer mapped-table-promise.Post
   pub residual-table : OneAnswer residual-table-promise.Post
   pub finished-table : OneAnswer finished-table-promise.Post
@@ -69,3 +76,6 @@ pub record Settled : Type 0 where
   pub job-marks : OneContent compose-job-promise.Post (λ κs s. now (s .1 .1 .1 .1 .1 .1 .1 .1 .0))
   pub job-number : OneAnswer job-number-promise.Post
   pub is-complete : OneAnswer is-complete-promise.Post
+  pub speed-job : OneAnswer speed-job-promise.Post
+  pub speed-output : OneContent speed-job-promise.Post (λ κs s. now (s .1 .1 .1 .1 .1 .1 .1 .0))
+  pub speed-marks : OneContent speed-job-promise.Post (λ κs s. now (s .1 .1 .1 .1 .1 .1 .1 .1 .0))

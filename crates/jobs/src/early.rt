@@ -1,6 +1,6 @@
 // The rules that an opening and a job test before any picture is looked at.
 use plan::Plan;
-use plan::passes;
+use rule_seven::passes;
 ghost use mathlib.Core.Path.{_≡_};
 ghost use mathlib.Core.Bool.{cond};
 ghost use lib.Dec.{eqb};

@@ -7,8 +7,8 @@ use pieces::piece_of;
 use pieces::pivots_of;
 use plan::Component;
 use plan::Header;
-use plan::is_usable;
 use polynomial::map_step;
+use rule_seven::is_usable;
 ghost use mathlib.Core.Path.{_≡_};
 ghost use Rattle.mapping.specs.inner.Mapped.{mapped-table};
 

@@ -1,16 +1,13 @@
 // A plan: every field of a composing block, as a value that travels with each call.
 pub mod limits; // the largest sizes and counts, and the places of a plan's arrays
-pub mod ranges; // the ranges of the header's fields and of a component's numbers
-mod places; // a component's places: those that are used keep their range, the others are 0
+pub mod ranges; // the ranges of the header's fields
 
 use limits::PIECES;
 use limits::PIVOTS;
 use limits::ROW;
-use places::component_fits;
-use ranges::header_fits;
 ghost use mathlib.Core.Bool.{false};
 ghost use mathlib.Core.Path.{_≡_};
-ghost use Rattle.plan.specs.Rule7.{fitting, usable, no-component, no-plan};
+ghost use Rattle.plan.specs.Rule7.{fitting, no-component, no-plan};
 
 // The header's fields (5.3.2), as the block carries them. W is twice `columns`, and H twice `pairs`.
 #[repr(C)]
@@ -62,31 +59,6 @@ pub struct Plan {
     pub y: Component,
     pub cb: Component,
     pub cr: Component,
-}
-
-// Rule 7: whether a plan that is handed in keeps every range and has 0 in every unused place.
-pub fn passes(plan: Plan) -> bool
-    ensures { λ r. ⌜ r ≡ fitting plan ⌝ }
-{
-    let header = plan.header;
-    // The other ranges are made of the header's numbers, which must be small enough to shift by.
-    if !header_fits(header) {
-        return false;
-    }
-    let y = plan.y;
-    let cb = plan.cb;
-    let cr = plan.cr;
-    component_fits(header, y) & (component_fits(header, cb) & component_fits(header, cr))
-}
-
-// Whether one component of a plan can be computed with, for whoever is handed a component alone.
-pub fn is_usable(h: Header, c: Component) -> bool
-    ensures { λ r. ⌜ r ≡ usable h c ⌝ }
-{
-    if !header_fits(h) {
-        return false;
-    }
-    component_fits(h, c)
 }
 
 fn zero_component() -> Component

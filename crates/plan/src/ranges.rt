@@ -1,15 +1,11 @@
 // The ranges of the house rules' tables. No test here leans on another, so all are made, and `&` joins them.
 use crate::Header;
-use crate::Nlq;
 use crate::limits::MOST_COLUMNS;
 use crate::limits::MOST_PAIRS;
 ghost use mathlib.Core.Path.{_≡_};
 ghost use mathlib.Core.Bool.{_||_};
-ghost use Prim.Native.Nat.{_+_, _^_, _≤_};
-ghost use lib.Dec.{ltb, eqb};
-ghost use Rattle.plan.specs.Ranges.{listed-profile, format-fits, size-fits, header-fits, coefficient-fits, unsigned-fits};
-ghost use Rattle.plan.specs.Rule7.{nlq-fits};
-ghost use Rattle.plan.specs.inner.Facts.{HeaderFacts};
+ghost use lib.Dec.{eqb};
+ghost use Rattle.plan.specs.Ranges.{listed-profile, format-fits, size-fits, header-fits};
 
 fn profile_listed(v: u8) -> bool
     ensures { λ r. ⌜ r ≡ listed-profile v ⌝ }
@@ -52,38 +48,4 @@ pub fn header_fits(h: Header) -> bool
     ensures { λ r. ⌜ r ≡ header-fits h ⌝ }
 {
     format_fits(h) & size_fits(h)
-}
-
-// A number of a sample's size, by its depth less 8.
-pub(crate) fn sample_fits(depth: u8, v: u16) -> bool
-    requires { ⌜ depth ≤ 2 ⌝ }
-    ensures { λ r. ⌜ r ≡ ltb v (2 ^ (depth + 8)) ⌝ }
-{
-    (v as u64) < (1u64 << ((depth as u32) + 8))
-}
-
-pub(crate) fn coefficient_fits(h: Header, z: i64) -> bool
-    requires { ⌜ HeaderFacts h ⌝ }
-    ensures { λ r. ⌜ r ≡ coefficient-fits h z ⌝ }
-{
-    let top = (64u64 << (h.d as u32)) as i64;
-    (-top <= z) & (z < top)
-}
-
-fn unsigned_fits(h: Header, v: u64) -> bool
-    requires { ⌜ HeaderFacts h ⌝ }
-    ensures { λ r. ⌜ r ≡ unsigned-fits h v ⌝ }
-{
-    v < (2u64 << (h.d as u32))
-}
-
-pub(crate) fn nlq_fits(h: Header, q: Nlq) -> bool
-    requires { ⌜ HeaderFacts h ⌝ }
-    ensures { λ r. ⌜ r ≡ nlq-fits h q ⌝ }
-{
-    let offset = sample_fits(h.el, q.offset);
-    let maximum = unsigned_fits(h, q.maximum);
-    let slope = unsigned_fits(h, q.slope);
-    let threshold = unsigned_fits(h, q.threshold);
-    offset & (maximum & (slope & threshold))
 }

@@ -4,7 +4,7 @@ mod places; // a plan with one place changed
 
 use places::put;
 use plan::Plan;
-use plan::passes;
+use rule_seven::passes;
 use streams::next_block;
 use streams::next_byte;
 use streams::next_long;

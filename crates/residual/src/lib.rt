@@ -6,11 +6,11 @@ mod rounding; // the reconstruction of one HDR sample
 use inverse::residual_of;
 use plan::Component;
 use plan::Header;
-use plan::is_usable;
 use plan::ranges::header_fits;
 use rounding::finish;
 use rounding::power;
 use rounding::raise;
+use rule_seven::is_usable;
 ghost use mathlib.Core.Path.{_≡_};
 ghost use Rattle.residual.specs.inner.Tables.{residual-table, finished-table, cut-table};
 

@@ -7,7 +7,7 @@ use lengths::is_wrong_pairs;
 use picture::Extent;
 use plan::Header;
 use plan::Plan;
-use plan::passes;
+use rule_seven::passes;
 use samples::is_wrong_sample;
 ghost use mathlib.Core.Path.{_≡_};
 ghost use Rattle.rules.specs.Rules.{given, extent, used, refusal};
