@@ -1,13 +1,14 @@
 // The trailer and the header: fields at fixed places, read as they stand and then tested.
-use crate::cursor::number;
+use fields::numbers::four;
+use fields::numbers::one;
+use fields::numbers::two;
 use plan::Header;
 ghost use mathlib.Core.Path.{_≡_};
-ghost use Prim.Native.Nat.{_+_, _≤_};
+ghost use Prim.Native.Nat.{_≤_};
 ghost use lib.ListN.{length};
-ghost use Rattle.block.specs.Reading.{number-at, trailer, trailer-fits, header, zeros-fit};
-ghost use Rattle.block.specs.Frames.{meant};
+ghost use Rattle.block.specs.Reading.{trailer, trailer-fits, header, zeros-fit};
 
-// The trailer's numbers: the distances from its first byte back to the header and the sections.
+// The trailer's numbers A, D0, D1, D2: the distances from its first byte back to the header and the sections.
 pub(crate) struct Trailer {
     pub(crate) a: u16,
     pub(crate) d0: u16,
@@ -17,30 +18,9 @@ pub(crate) struct Trailer {
     pub(crate) last: u16,
 }
 
-fn one(s: &[u8], at: usize) -> u8
-    requires { ⌜ at + 1 ≤ length (now s) ⌝ }
-    ensures { λ r. ⌜ r ≡ number-at (now (s .entry)) at 1 ⌝ }
-{
-    number(s, at, 1) as u8
-}
-
-fn two(s: &[u8], at: usize) -> u16
-    requires { ⌜ at + 2 ≤ length (now s) ⌝ }
-    ensures { λ r. ⌜ r ≡ number-at (now (s .entry)) at 2 ⌝ }
-{
-    number(s, at, 2) as u16
-}
-
-fn four(s: &[u8], at: usize) -> u32
-    requires { ⌜ at + 4 ≤ length (now s) ⌝ }
-    ensures { λ r. ⌜ r ≡ number-at (now (s .entry)) at 4 ⌝ }
-{
-    number(s, at, 4) as u32
-}
-
 pub(crate) fn read_trailer(s: &[u8]) -> Trailer
     requires { ⌜ 12 ≤ length (now s) ⌝ }
-    ensures { λ r. ⌜ meant r ≡ trailer (now (s .entry)) ⌝ }
+    ensures { λ r. ⌜ r ≡ trailer (now (s .entry)) ⌝ }
 {
     let t = s.len() - 12;
     let a = two(s, t);
@@ -61,7 +41,7 @@ pub(crate) fn read_trailer(s: &[u8]) -> Trailer
 
 // Rule 2. The sum is taken in 32 bits: in 16 it could wrap.
 pub(crate) fn trailer_fits(x: Trailer) -> bool
-    ensures { λ r. ⌜ r ≡ trailer-fits (meant x) ⌝ }
+    ensures { λ r. ⌜ r ≡ trailer-fits x ⌝ }
 {
     let header = (x.a as u32) == (x.d0 as u32) + 24;
     let falling = (x.d1 < x.d0) & ((x.d2 < x.d1) & (0 < x.d2));
@@ -69,7 +49,6 @@ pub(crate) fn trailer_fits(x: Trailer) -> bool
 }
 
 pub(crate) fn read_header(s: &[u8]) -> Header
-    requires { ⌜ length (now s) ≡ 24 ⌝ }
     ensures { λ r. ⌜ r ≡ header (now (s .entry)) ⌝ }
 {
     let profile = one(s, 0);
@@ -100,7 +79,6 @@ pub(crate) fn read_header(s: &[u8]) -> Header
 
 // The header's bytes that stand between its fields are 0.
 pub(crate) fn zeros_fit(s: &[u8]) -> bool
-    requires { ⌜ length (now s) ≡ 24 ⌝ }
     ensures { λ r. ⌜ r ≡ zeros-fit (now (s .entry)) ⌝ }
 {
     let first = one(s, 7);

@@ -4,39 +4,6 @@ use Rattle.block.specs.Reading.{header}
 use Rattle.block.proofs.frame.read_header.Statement.{statement}
 use Rattle.block.proofs.frame.read_header.Tie as tie
 
-one-requires : tie.Need-one-requires
-one-requires c κs = search needs
-
-one-requires-2 : tie.Need-one-requires-2
-one-requires-2 c κs = search needs
-
-one-requires-3 : tie.Need-one-requires-3
-one-requires-3 c κs = search needs
-
-one-requires-4 : tie.Need-one-requires-4
-one-requires-4 c κs = search needs
-
-one-requires-5 : tie.Need-one-requires-5
-one-requires-5 c κs = search needs
-
-one-requires-6 : tie.Need-one-requires-6
-one-requires-6 c κs = search needs
-
-one-requires-7 : tie.Need-one-requires-7
-one-requires-7 c κs = search needs
-
-two-requires : tie.Need-two-requires
-two-requires c κs = search needs
-
-two-requires-2 : tie.Need-two-requires-2
-two-requires-2 c κs = search needs
-
-two-requires-3 : tie.Need-two-requires-3
-two-requires-3 c κs = search needs
-
-four-requires : tie.Need-four-requires
-four-requires c κs = search needs
-
 returns : tie.Need-returns
 unfolding header
 returns c =
@@ -68,15 +35,15 @@ pub read-header-spec : {M : Type 1} → statement M
 read-header-spec =
     tie.close
     (tie.spec
-    one-requires
-    one-requires-2
-    one-requires-3
-    one-requires-4
-    one-requires-5
-    one-requires-6
-    one-requires-7
-    two-requires
-    two-requires-2
-    two-requires-3
-    four-requires
+    (λ c κs. search needs)
+    (λ c κs. search needs)
+    (λ c κs. search needs)
+    (λ c κs. search needs)
+    (λ c κs. search needs)
+    (λ c κs. search needs)
+    (λ c κs. search needs)
+    (λ c κs. search needs)
+    (λ c κs. search needs)
+    (λ c κs. search needs)
+    (λ c κs. search needs)
     returns)

@@ -5,15 +5,6 @@ use Rattle.block.specs.Reading.{zeros-fit}
 use Rattle.block.proofs.frame.zeros_fit.Statement.{statement}
 use Rattle.block.proofs.frame.zeros_fit.Tie as tie
 
-one-requires : tie.Need-one-requires
-one-requires c κs = search needs
-
-two-requires : tie.Need-two-requires
-two-requires c κs = search needs
-
-four-requires : tie.Need-four-requires
-four-requires c κs = search needs
-
 returns : tie.Need-returns
 unfolding zeros-fit
 returns c =
@@ -22,4 +13,4 @@ returns c =
     rw (a .one .ensures, b .two .ensures, c .four .ensures, and-true)
 
 pub zeros-fit-spec : {M : Type 1} → statement M
-zeros-fit-spec = tie.close (tie.spec one-requires two-requires four-requires returns)
+zeros-fit-spec = tie.close (tie.spec (λ c κs. search needs) (λ c κs. search needs) (λ c κs. search needs) returns)
