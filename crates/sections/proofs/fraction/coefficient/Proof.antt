@@ -6,7 +6,7 @@ use borrow.Author.Needs.{needs}
 use lib.IntN.{ℤ, pos, natAbs}
 use mir.Syntax.{w64}
 use mir.Val.{ofZ}
-use Rattle.words.proofs.Holding.{Holds, number, result, add, mul, add-asked, mul-asked}
+use Rattle.words.proofs.Holding.{Holds, number, result, add, mul, add-asked, sub-asked, mul-asked}
 use Rattle.sections.proofs.Making.{signed-le, made-coefficient}
 use Rattle.sections.proofs.fraction.coefficient.Statement.{statement}
 use Rattle.sections.proofs.fraction.coefficient.Tie as tie
@@ -33,11 +33,6 @@ mul-t16 c =
     let a : tie.After-signed = search needs in
     mul-asked (whole a) (scale (to-power a)) tt
 
-add-t18 : tie.Need-add-t18
-add-t18 c =
-    let a : tie.After-signed = search needs in
-    add-asked (mul (whole a) (scale (to-power a)) tt) (rest (to-fraction a)) tt
-
 returns : tie.Need-returns
 returns c =
     let a : tie.After-signed = search needs in
@@ -61,5 +56,6 @@ coefficient-spec =
     (λ c. search needs)
     mul-t16
     (λ c. search needs)
-    add-t18
+    -- asked by its type and not by its operation: a sum that is edited then fails by its value
+    (λ c. let a : tie.After-signed = search needs in let x = mul (whole a) (scale (to-power a)) tt in let y = rest (to-fraction a) in search (add-asked x y tt, sub-asked x y tt))
     returns)
