@@ -18,8 +18,9 @@ use Rattle.sections.specs.declared.Found.{Found}
 use Rattle.sections.proofs.Places.{and}
 use Rattle.sections.proofs.Fitting.{accepted}
 use Rattle.block.specs.declared.Reading.{Reading}
-use Rattle.block.specs.declared.frame.Trailer.{Trailer}
-use Rattle.block.specs.Reading.{part, trailer, trailer-fits, header, zeros-fit, wrong-column, refusal, section-at, met, sections, body, read}
+use Rattle.frame.specs.declared.Trailer.{Trailer}
+use Rattle.frame.specs.Frame.{trailer, trailer-fits, header, zeros-fit, wrong-column}
+use Rattle.block.specs.Reading.{tail, part, refusal, section-at, met, sections, body, read}
 use Rattle.block.specs.Facts.{Sound}
 
 pub part-length : (bytes : List ℕ) (a b : ℕ) → b ≤ length bytes → length (part bytes a b) ≡ b - a
@@ -66,7 +67,7 @@ pub sound : (bytes : List ℕ) → Sound (read bytes)
 unfolding read body
 sound bytes =
     let t = length bytes - 12 in
-    let x = trailer bytes in
+    let x = trailer (tail bytes) in
     let head = part bytes (t - x .a) (t - x .d0) in
     either (ltb (length bytes) 12) (refusing 1 0 _ (λ z. omega arith)) (λ _.
     either (not (trailer-fits x)) (refusing 2 t _ (λ z. omega arith)) (λ _.

@@ -8,8 +8,9 @@ use borrow.Author.Tests.{eqb-true, ltb-true, lt-ltb, le-ltb}
 use Rattle.plan.specs.Ranges.{header-fits}
 use Rattle.plan.proofs.Truths.{each}
 use Rattle.fields.specs.Fields.{no-name}
-use Rattle.block.specs.declared.frame.Trailer.{Trailer}
-use Rattle.block.specs.Reading.{part, trailer, trailer-fits, trailer-tests, header, zeros-fit, wrong-column, refusal, sections, body, read}
+use Rattle.frame.specs.declared.Trailer.{Trailer}
+use Rattle.frame.specs.Frame.{trailer, trailer-fits, trailer-tests, header, zeros-fit, wrong-column}
+use Rattle.block.specs.Reading.{tail, part, refusal, sections, body, read}
 use Rattle.block.specs.Facts.{Placed}
 
 module _ (bytes : List ℕ) where
@@ -18,16 +19,16 @@ module _ (bytes : List ℕ) where
   too-short h = rw (lt-ltb _ _ h)
 
   module _ (h : 12 ≤ length bytes) where
-    pub bad-trailer : trailer-fits (trailer bytes) ≡ false → refusal 2 (length bytes - 12) no-name ≡ read bytes
+    pub bad-trailer : trailer-fits (trailer (tail bytes)) ≡ false → refusal 2 (length bytes - 12) no-name ≡ read bytes
     unfolding read
     bad-trailer e = rw (le-ltb _ _ h, e)
 
-    module _ (e : trailer-fits (trailer bytes) ≡ true) where
-      pub cut-off : length bytes - 12 < trailer bytes .a → refusal 1 0 no-name ≡ read bytes
+    module _ (e : trailer-fits (trailer (tail bytes)) ≡ true) where
+      pub cut-off : length bytes - 12 < trailer (tail bytes) .a → refusal 1 0 no-name ≡ read bytes
       unfolding read
       cut-off l = rw (le-ltb _ _ h, e, lt-ltb _ _ l)
 
-      pub goes-on : trailer bytes .a ≤ length bytes - 12 → body bytes (length bytes - 12) (trailer bytes) ≡ read bytes
+      pub goes-on : trailer (tail bytes) .a ≤ length bytes - 12 → body bytes (length bytes - 12) (trailer (tail bytes)) ≡ read bytes
       unfolding read
       goes-on l = rw (le-ltb _ _ h, e, le-ltb _ _ l)
 

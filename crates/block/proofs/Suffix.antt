@@ -1,33 +1,25 @@
 -- What is read depends on the last A + 12 bytes only: bytes put before them change no number and no plan, and a failure is
 -- met as many bytes later as were put before. Assumes nothing.
 use mathlib.Core.Path.{_≡_, refl, sym, ap, ap₂, _∙_}
-use mathlib.Core.Bool.{Bool, true, false, true≢false, cond, not, _&&_}
-use native.Mathlib.Nat.{lt-of-not-le}
+use mathlib.Core.Bool.{Bool, true, false, cond, not, _&&_}
 use mathlib.Core.List.{List, _++_}
 use Prim.Native.Nat.{ℕ, _+_, _-_, _≤_}
 use native.Mathlib.Omega.{arith}
 use lib.ListN.{length, length-append}
 use lib.Seq.{drop-append-add}
-use lib.Dec.{eqb, leb}
-use borrow.Author.Tests.{leb-true, le-leb, lt-leb}
+use lib.Dec.{eqb}
 use Rattle.plan.specs.declared.Header.{Header}
 use Rattle.plan.specs.declared.Component.{Component}
 use Rattle.plan.specs.Ranges.{header-fits}
 use Rattle.fields.specs.declared.Name.{Name}
-use Rattle.fields.specs.Fields.{number-of, number-at, no-name}
+use Rattle.fields.specs.Fields.{no-name}
 use Rattle.sections.specs.declared.Found.{Found}
 use Rattle.block.specs.declared.Reading.{Reading}
-use Rattle.block.specs.declared.frame.Trailer.{Trailer}
-use Rattle.block.specs.Reading.{part, trailer, trailer-fits, header, zeros-fit, wrong-column, refusal, section-at, met, sections, body, read}
+use Rattle.frame.specs.declared.Trailer.{Trailer}
+use Rattle.frame.specs.Frame.{trailer, trailer-fits, header, zeros-fit, wrong-column}
+use Rattle.block.specs.Reading.{tail, part, refusal, section-at, met, sections, body, read}
 use Rattle.block.specs.Facts.{Placed, moved}
 use Rattle.block.proofs.Cascade.{bad-trailer, goes-on, placed}
-
-same-leb : (a b c d : ℕ) → (a ≤ b → c ≤ d) → (c ≤ d → a ≤ b) → leb a b ≡ leb c d
-same-leb a b c d f g = go (leb a b) refl
-  where
-    go : (t : Bool) → leb a b ≡ t → t ≡ leb c d
-    go true e = sym (le-leb c d (f (leb-true a b e)))
-    go false e = sym (lt-leb c d (lt-of-not-le (λ l. true≢false (sym (le-leb a b (g l)) ∙ e))))
 
 module _ (p s : List ℕ) where
   abbrev n : ℕ
@@ -38,23 +30,10 @@ module _ (p s : List ℕ) where
       let e : n + b - (n + a) ≡ b - a = omega arith in
       rw (e, drop-append-add p s a)
 
-  number-moved : (a w : ℕ) → number-at (p ++ s) (n + a) w ≡ number-at s a w
-  number-moved a w =
-      let l = length-append p s in
-      let e : leb (n + a + w) (length (p ++ s)) ≡ leb (a + w) (length s) = same-leb (n + a + w) (length (p ++ s)) (a + w) (length s) (λ h. omega arith) (λ h. omega arith) in
-      rw (e, drop-append-add p s a)
-
-  trailer-moved : 12 ≤ length s → (length (p ++ s) - 12 ≡ n + (length s - 12)) × (trailer (p ++ s) ≡ trailer s)
-  unfolding trailer
-  trailer-moved h =
-      let t = length s - 12 in
-      let e : length (p ++ s) - 12 ≡ n + t = omega (arith, length-append p s) in
-      let e2 : n + t + 2 ≡ n + (t + 2) = omega arith in
-      let e4 : n + t + 4 ≡ n + (t + 4) = omega arith in
-      let e6 : n + t + 6 ≡ n + (t + 6) = omega arith in
-      let e8 : n + t + 8 ≡ n + (t + 8) = omega arith in
-      let e10 : n + t + 10 ≡ n + (t + 10) = omega arith in
-      (e, rw (e, number-moved t 2, e2, number-moved (t + 2) 2, e4, number-moved (t + 4) 2, e6, number-moved (t + 6) 2, e8, number-moved (t + 8) 2, e10, number-moved (t + 10) 2))
+  tail-moved : 12 ≤ length s → (length (p ++ s) - 12 ≡ n + (length s - 12)) × (trailer (tail (p ++ s)) ≡ trailer (tail s))
+  tail-moved h =
+      let e : length (p ++ s) - 12 ≡ n + (length s - 12) = omega (arith, length-append p s) in
+      (e, rw (e, length-append p s, part-moved (length s - 12) (length s)))
 
   section-moved : (a b : ℕ) (h : Header) (k : ℕ) (next next' : Component → Reading) → ((c : Component) → next' c ≡ moved n (next c))
       → met (n + a) (section-at (p ++ s) (n + a) (n + b) h k) next' ≡ moved n (met a (section-at s a b h k) next)
@@ -96,20 +75,20 @@ module _ (p s : List ℕ) where
       either false a name r = refl
 
   -- 12 bytes or more, in which the trailer does not point before the first
-  pub suffix : 12 ≤ length s → trailer s .a ≤ length s - 12 → read (p ++ s) ≡ moved n (read s)
-  suffix h l = go (trailer-fits (trailer s)) refl
+  pub suffix : 12 ≤ length s → trailer (tail s) .a ≤ length s - 12 → read (p ++ s) ≡ moved n (read s)
+  suffix h l = go (trailer-fits (trailer (tail s))) refl
     where
-      m : (length (p ++ s) - 12 ≡ n + (length s - 12)) × (trailer (p ++ s) ≡ trailer s)
-      m = trailer-moved h
+      m : (length (p ++ s) - 12 ≡ n + (length s - 12)) × (trailer (tail (p ++ s)) ≡ trailer (tail s))
+      m = tail-moved h
 
       long : 12 ≤ length (p ++ s)
       long = omega (arith, length-append p s)
 
-      near : trailer (p ++ s) .a ≤ length (p ++ s) - 12
+      near : trailer (tail (p ++ s)) .a ≤ length (p ++ s) - 12
       near = rw (m .1, m .0) (omega arith)
 
-      go : (q : Bool) → trailer-fits (trailer s) ≡ q → read (p ++ s) ≡ moved n (read s)
+      go : (q : Bool) → trailer-fits (trailer (tail s)) ≡ q → read (p ++ s) ≡ moved n (read s)
       go true e =
           sym (goes-on (p ++ s) long (ap trailer-fits (m .1) ∙ e) near) ∙ ap₂ (body (p ++ s)) (m .0) (m .1)
-          ∙ body-moved (length s - 12) (trailer s) (placed (trailer s) (omega arith) e l) ∙ ap (moved n) (goes-on s h e l)
+          ∙ body-moved (length s - 12) (trailer (tail s)) (placed (trailer (tail s)) (omega arith) e l) ∙ ap (moved n) (goes-on s h e l)
       go false e = sym (bad-trailer (p ++ s) long (ap trailer-fits (m .1) ∙ e)) ∙ ap (λ (k : ℕ). refusal 2 k no-name) (m .0) ∙ ap (moved n) (bad-trailer s h e)

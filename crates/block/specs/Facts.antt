@@ -7,8 +7,9 @@ use lib.Dec.{eqb}
 use lib.ListN.{length}
 use Rattle.plan.specs.Rule7.{fitting, no-plan}
 use Rattle.block.specs.declared.Reading.{Reading}
-use Rattle.block.specs.declared.frame.Trailer.{Trailer}
-use Rattle.block.specs.Reading.{trailer, read}
+use Rattle.frame.specs.declared.Trailer.{Trailer}
+use Rattle.frame.specs.Frame.{trailer}
+use Rattle.block.specs.Reading.{tail, read}
 
 -- where a trailer that rule 2 passes points, in a slice of n bytes whose trailer begins at t (for private functions only)
 pub record Placed (n t : ℕ) (x : Trailer) : Type 0 where
@@ -29,4 +30,4 @@ moved n r = record { number = r .number; place = cond (eqb (r .number) 0) (r .pl
 
 -- what is read depends on the last A + 12 bytes only: any bytes p may stand before them
 pub record LastBytes : Type 0 where
-  pub only : (p s : List ℕ) → 12 ≤ length s → trailer s .a ≤ length s - 12 → read (p ++ s) ≡ moved (length p) (read s)
+  pub only : (p s : List ℕ) → 12 ≤ length s → trailer (tail s) .a ≤ length s - 12 → read (p ++ s) ≡ moved (length p) (read s)

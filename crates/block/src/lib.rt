@@ -1,12 +1,8 @@
 // The composing block, read to a plan.
-pub mod kinds; // the kinds of the header's columns
-mod columns; // which column of a refused header is named
-mod frame; // the trailer and the header
-
-use columns::wrong_column;
 use fields::Name;
 use fields::nameless;
 use frame::Trailer;
+use frame::columns::wrong_column;
 use frame::read_header;
 use frame::read_trailer;
 use frame::trailer_fits;
@@ -117,7 +113,7 @@ pub fn read(bytes: &[u8]) -> Reading
         return refused(1, 0, none);
     }
     let t = bytes.len() - 12;
-    let x = read_trailer(bytes);
+    let x = read_trailer(&bytes[t..]);
     if !trailer_fits(x) {
         return refused(2, t, none);
     }

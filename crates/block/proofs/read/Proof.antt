@@ -6,8 +6,9 @@ use native.Mathlib.Omega.{arith}
 use borrow.Author.Needs.{needs}
 use borrow.Author.Tests.{not-true, not-false}
 use Rattle.block.specs.declared.Reading.{Reading}
-use Rattle.block.specs.declared.frame.Trailer.{Trailer}
-use Rattle.block.specs.Reading.{trailer, trailer-fits, refusal, body, read}
+use Rattle.frame.specs.declared.Trailer.{Trailer}
+use Rattle.frame.specs.Frame.{trailer, trailer-fits}
+use Rattle.block.specs.Reading.{tail, refusal, body, read}
 use Rattle.block.specs.Facts.{Sound}
 use Rattle.block.proofs.Answers.{sound}
 use Rattle.block.proofs.Cascade.{too-short, bad-trailer, cut-off, goes-on, placed}
@@ -21,7 +22,7 @@ tested p = sym (p .before .trailer-fits .ensures) ∙ not-false _ (p .if2 .left)
 abbrev start : tie.Else2 → tie.Start
 start p = search needs
 
-passed : (p : tie.Else2) → trailer-fits (trailer (start p .args .bytes .now)) ≡ true
+passed : (p : tie.Else2) → trailer-fits (trailer (tail (start p .args .bytes .now))) ≡ true
 passed p = rw (p .before .before .read-trailer .ensures) at (tested p)
 
 -- each answer is what reading comes to, and so it is sound
@@ -76,6 +77,9 @@ read-spec =
     (λ c κs. search needs)
     (λ c κs. search needs)
     returns
+    (λ c. search needs)
+    (λ c. search needs)
+    (λ c. search needs)
     (λ c. search needs)
     (λ c κs. search needs)
     (λ c κs. search needs)

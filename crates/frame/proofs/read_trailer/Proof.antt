@@ -1,8 +1,8 @@
 -- `read_trailer` meets its contract. Assumes nothing.
 use borrow.Author.Needs.{needs}
-use Rattle.block.specs.Reading.{trailer}
-use Rattle.block.proofs.frame.read_trailer.Statement.{statement}
-use Rattle.block.proofs.frame.read_trailer.Tie as tie
+use Rattle.frame.specs.Frame.{trailer}
+use Rattle.frame.proofs.read_trailer.Statement.{statement}
+use Rattle.frame.proofs.read_trailer.Tie as tie
 
 returns : tie.Need-returns
 unfolding trailer
@@ -18,16 +18,10 @@ pub read-trailer-spec : {M : Type 1} → statement M
 read-trailer-spec =
     tie.close
     (tie.spec
-    (λ c. search needs)
     (λ c κs. search needs)
-    (λ c. search needs)
     (λ c κs. search needs)
-    (λ c. search needs)
     (λ c κs. search needs)
-    (λ c. search needs)
     (λ c κs. search needs)
-    (λ c. search needs)
     (λ c κs. search needs)
-    (λ c. search needs)
     (λ c κs. search needs)
     returns)

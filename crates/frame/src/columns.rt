@@ -25,7 +25,7 @@ ghost use mathlib.Core.Path.{_≡_};
 ghost use mathlib.Core.Bool.{cond};
 ghost use lib.ListN.{take, drop};
 ghost use Rattle.plan.specs.Ranges.{format-tests};
-ghost use Rattle.block.specs.Reading.{first-wrong, later-columns, wrong-column};
+ghost use Rattle.frame.specs.Frame.{first-wrong, later-columns, wrong-column};
 
 fn pick(fits: bool, kind: u8, rest: u8) -> u8
     ensures { λ r. ⌜ r ≡ cond fits rest kind ⌝ }
@@ -76,7 +76,7 @@ fn wrong_size(h: Header, zero7: bool, zero14: bool, zero20: bool) -> u8
     pick(zero7, ZERO_7, columns)
 }
 
-pub(crate) fn wrong_column(head: &[u8], h: Header) -> Name
+pub fn wrong_column(head: &[u8], h: Header) -> Name
     ensures { λ r. ⌜ r ≡ wrong-column (now (head .entry)) h ⌝ }
 {
     let zero7 = one(head, 7) == 0;

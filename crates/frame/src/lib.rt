@@ -1,34 +1,34 @@
 // The trailer and the header: fields at fixed places, read as they stand and then tested.
+pub mod columns; // which column of a refused header is named
+pub mod kinds; // the kinds of the header's columns
+
 use fields::numbers::four;
 use fields::numbers::one;
 use fields::numbers::two;
 use plan::Header;
 ghost use mathlib.Core.Path.{_≡_};
-ghost use Prim.Native.Nat.{_≤_};
-ghost use lib.ListN.{length};
-ghost use Rattle.block.specs.Reading.{trailer, trailer-fits, header, zeros-fit};
+ghost use Rattle.frame.specs.Frame.{trailer, trailer-fits, header, zeros-fit};
 
 // The trailer's numbers A, D0, D1, D2: the distances from its first byte back to the header and the sections.
-pub(crate) struct Trailer {
-    pub(crate) a: u16,
-    pub(crate) d0: u16,
-    pub(crate) d1: u16,
-    pub(crate) d2: u16,
-    pub(crate) version: u16,
-    pub(crate) last: u16,
+pub struct Trailer {
+    pub a: u16,
+    pub d0: u16,
+    pub d1: u16,
+    pub d2: u16,
+    pub version: u16,
+    pub last: u16,
 }
 
-pub(crate) fn read_trailer(s: &[u8]) -> Trailer
-    requires { ⌜ 12 ≤ length (now s) ⌝ }
+// The trailer, which is the whole of s.
+pub fn read_trailer(s: &[u8]) -> Trailer
     ensures { λ r. ⌜ r ≡ trailer (now (s .entry)) ⌝ }
 {
-    let t = s.len() - 12;
-    let a = two(s, t);
-    let d0 = two(s, t + 2);
-    let d1 = two(s, t + 4);
-    let d2 = two(s, t + 6);
-    let version = two(s, t + 8);
-    let last = two(s, t + 10);
+    let a = two(s, 0);
+    let d0 = two(s, 2);
+    let d1 = two(s, 4);
+    let d2 = two(s, 6);
+    let version = two(s, 8);
+    let last = two(s, 10);
     Trailer {
         a: a,
         d0: d0,
@@ -40,7 +40,7 @@ pub(crate) fn read_trailer(s: &[u8]) -> Trailer
 }
 
 // Rule 2. The sum is taken in 32 bits: in 16 it could wrap.
-pub(crate) fn trailer_fits(x: Trailer) -> bool
+pub fn trailer_fits(x: Trailer) -> bool
     ensures { λ r. ⌜ r ≡ trailer-fits x ⌝ }
 {
     let header = (x.a as u32) == (x.d0 as u32) + 24;
@@ -48,7 +48,8 @@ pub(crate) fn trailer_fits(x: Trailer) -> bool
     (x.version == 1) & ((x.last == 0) & (header & falling))
 }
 
-pub(crate) fn read_header(s: &[u8]) -> Header
+// The header, which is the whole of s.
+pub fn read_header(s: &[u8]) -> Header
     ensures { λ r. ⌜ r ≡ header (now (s .entry)) ⌝ }
 {
     let profile = one(s, 0);
@@ -78,7 +79,7 @@ pub(crate) fn read_header(s: &[u8]) -> Header
 }
 
 // The header's bytes that stand between its fields are 0.
-pub(crate) fn zeros_fit(s: &[u8]) -> bool
+pub fn zeros_fit(s: &[u8]) -> bool
     ensures { λ r. ⌜ r ≡ zeros-fit (now (s .entry)) ⌝ }
 {
     let first = one(s, 7);

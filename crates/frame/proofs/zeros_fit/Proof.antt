@@ -1,9 +1,9 @@
 -- `zeros_fit` meets its contract. Assumes nothing.
 use mathlib.Core.Bool.{and-true}
 use borrow.Author.Needs.{needs}
-use Rattle.block.specs.Reading.{zeros-fit}
-use Rattle.block.proofs.frame.zeros_fit.Statement.{statement}
-use Rattle.block.proofs.frame.zeros_fit.Tie as tie
+use Rattle.frame.specs.Frame.{zeros-fit}
+use Rattle.frame.proofs.zeros_fit.Statement.{statement}
+use Rattle.frame.proofs.zeros_fit.Tie as tie
 
 returns : tie.Need-returns
 unfolding zeros-fit

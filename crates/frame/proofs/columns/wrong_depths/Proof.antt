@@ -1,7 +1,7 @@
 -- `wrong_depths` meets its contract. Assumes nothing.
 use borrow.Author.Needs.{needs}
-use Rattle.block.proofs.columns.wrong_depths.Statement.{statement}
-use Rattle.block.proofs.columns.wrong_depths.Tie as tie
+use Rattle.frame.proofs.columns.wrong_depths.Statement.{statement}
+use Rattle.frame.proofs.columns.wrong_depths.Tie as tie
 
 returns : tie.Need-returns
 returns c =

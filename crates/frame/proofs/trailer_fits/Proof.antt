@@ -1,9 +1,9 @@
 -- `trailer_fits` meets its contract. Assumes nothing.
 use mathlib.Core.Bool.{and-true}
 use borrow.Author.Needs.{needs}
-use Rattle.block.specs.Reading.{trailer-fits}
-use Rattle.block.proofs.frame.trailer_fits.Statement.{statement}
-use Rattle.block.proofs.frame.trailer_fits.Tie as tie
+use Rattle.frame.specs.Frame.{trailer-fits}
+use Rattle.frame.proofs.trailer_fits.Statement.{statement}
+use Rattle.frame.proofs.trailer_fits.Tie as tie
 
 returns : tie.Need-returns
 unfolding trailer-fits

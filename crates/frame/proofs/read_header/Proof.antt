@@ -1,8 +1,8 @@
 -- `read_header` meets its contract. Assumes nothing.
 use borrow.Author.Needs.{needs}
-use Rattle.block.specs.Reading.{header}
-use Rattle.block.proofs.frame.read_header.Statement.{statement}
-use Rattle.block.proofs.frame.read_header.Tie as tie
+use Rattle.frame.specs.Frame.{header}
+use Rattle.frame.proofs.read_header.Statement.{statement}
+use Rattle.frame.proofs.read_header.Tie as tie
 
 returns : tie.Need-returns
 unfolding header

@@ -1,8 +1,8 @@
 -- `wrong_column` meets its contract. Assumes nothing.
 use borrow.Author.Needs.{needs}
-use Rattle.block.specs.Reading.{wrong-column}
-use Rattle.block.proofs.columns.wrong_column.Statement.{statement}
-use Rattle.block.proofs.columns.wrong_column.Tie as tie
+use Rattle.frame.specs.Frame.{wrong-column}
+use Rattle.frame.proofs.columns.wrong_column.Statement.{statement}
+use Rattle.frame.proofs.columns.wrong_column.Tie as tie
 
 returns : tie.Need-returns
 unfolding wrong-column

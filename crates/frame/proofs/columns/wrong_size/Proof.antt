@@ -1,8 +1,8 @@
 -- `wrong_size` meets its contract. Assumes nothing.
 use borrow.Author.Needs.{needs}
-use Rattle.block.specs.Reading.{later-columns}
-use Rattle.block.proofs.columns.wrong_size.Statement.{statement}
-use Rattle.block.proofs.columns.wrong_size.Tie as tie
+use Rattle.frame.specs.Frame.{later-columns}
+use Rattle.frame.proofs.columns.wrong_size.Statement.{statement}
+use Rattle.frame.proofs.columns.wrong_size.Tie as tie
 
 returns : tie.Need-returns
 unfolding later-columns
