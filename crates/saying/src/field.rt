@@ -8,18 +8,18 @@ use fields::numbers::four;
 use fields::numbers::one;
 use fields::numbers::two;
 use plan::limits::MOST_N;
-use sections::kinds::HDR_IN_MAX;
-use sections::kinds::HDR_IN_MAX_INT;
-use sections::kinds::MAPPING_IDC;
-use sections::kinds::NLQ_OFFSET;
-use sections::kinds::NUM_PIVOTS_MINUS2;
-use sections::kinds::POLY_COEF;
-use sections::kinds::POLY_COEF_INT;
-use sections::kinds::POLY_ORDER_MINUS1;
-use sections::kinds::PRED_PIVOT_VALUE;
-use sections::kinds::SLOPE;
-use sections::kinds::SLOPE_INT;
-use sections::kinds::THRESHOLD_INT;
+use section_fields::kinds::HDR_IN_MAX;
+use section_fields::kinds::HDR_IN_MAX_INT;
+use section_fields::kinds::MAPPING_IDC;
+use section_fields::kinds::NLQ_OFFSET;
+use section_fields::kinds::NUM_PIVOTS_MINUS2;
+use section_fields::kinds::POLY_COEF;
+use section_fields::kinds::POLY_COEF_INT;
+use section_fields::kinds::POLY_ORDER_MINUS1;
+use section_fields::kinds::PRED_PIVOT_VALUE;
+use section_fields::kinds::SLOPE;
+use section_fields::kinds::SLOPE_INT;
+use section_fields::kinds::THRESHOLD_INT;
 
 fn say_kind(kind: u8) {
     match kind {

@@ -69,7 +69,11 @@ fn say_end(bytes: &[u8], t: usize, k: usize) {
 
 // What was found and what is allowed, on a line of its own.
 pub(crate) fn say_found(number: u8, place: usize, field: Name, bytes: &[u8]) {
-    let t = if bytes.len() < 12 { 0 } else { bytes.len() - 12 };
+    let t = if bytes.len() < 12 {
+        0
+    } else {
+        bytes.len() - 12
+    };
     match number {
         1 => say_short(bytes, t),
         2 => say_trailer(rest(bytes, t)),

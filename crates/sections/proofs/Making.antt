@@ -7,7 +7,6 @@ use native.Mathlib.Omega.{arith}
 use lib.Dec.{leb, ltb}
 use lib.ListN.{length, drop, length-drop}
 use lib.IntN.{ℤ, pos, natAbs, _+ℤ_, _-ℤ_, _*ℤ_}
-use Rattle.words.proofs.Bounds.{sub-in}
 use Rattle.plan.specs.declared.Header.{Header}
 use Rattle.plan.specs.declared.Piece.{Piece}
 use Rattle.plan.specs.declared.Nlq.{Nlq}
@@ -21,20 +20,14 @@ use Rattle.fields.specs.Fields.{got, _then_, no-name, repeated, padded, ended}
 use Rattle.fields.specs.Cursors.{start, from, Reads, filled}
 use Rattle.fields.proofs.Following.{joined, done}
 use Rattle.fields.proofs.Filling.{listed}
-use Rattle.sections.specs.Sections.{asked, ranged, signed, integer-fits, coefficient, unsigned, idc, piece, pivot, nlq, counted, section, under, failed, found}
-
-small : (t : Bool) (v : ℕ) → v < 256 → natAbs (cond t (pos v) (pos v -ℤ pos 256)) ≤ 512
-small true v h = omega arith
-small false v h = sub-in (pos v) (pos 256) {a = 256} {b = 256} (omega arith) (omega arith)
-
-pub signed-le : (v : ℕ) → v < 256 → natAbs (signed v) ≤ 512
-signed-le v h = small (ltb v 128) v h
+use Rattle.section_fields.specs.Fields.{asked, ranged, signed, integer-fits}
+use Rattle.sections.specs.Sections.{coefficient, unsigned, idc, piece, pivot, nlq, counted, section, under, failed, found}
 
 module _ {s : List ℕ} (h : Header) (k : ℕ) {c c1 c2 : Cursor} where
-  pub made-coefficient : (p i one n f : ℕ) {x y : Ask} {z a : ℤ} → z ≡ a *ℤ pos one +ℤ pos f → a ≡ signed n → one ≡ 2 ^ h .d → x ≡ asked 5 k p i One → y ≡ asked 6 k p i Four
-      → Reads s c (ranged x integer-fits) n c1 → Reads s c1 (ranged y (fraction-fits h)) f c2 → Reads s c (coefficient h k p i) z c2
+  pub made-coefficient : (p i one n f : ℕ) {y : Ask} {z a : ℤ} → z ≡ a *ℤ pos one +ℤ pos f → a ≡ signed n → one ≡ 2 ^ h .d → y ≡ asked 6 k p i Four
+      → Reads s c (ranged (asked 5 k p i One) integer-fits) n c1 → Reads s c1 (ranged y (fraction-fits h)) f c2 → Reads s c (coefficient h k p i) z c2
   unfolding coefficient
-  made-coefficient p i one n f e q d x y r t = rw (e, q, d) (joined _ (rw x at r) (joined _ (rw y at t) done))
+  made-coefficient p i one n f e q d y r t = rw (e, q, d) (joined _ r (joined _ (rw y at t) done))
 
   pub made-unsigned : (kind one n f : ℕ) {x y : Ask} → one ≡ 2 ^ h .d → x ≡ asked kind k 0 0 One → y ≡ asked (kind + 1) k 0 0 Four
       → Reads s c (ranged x (λ v. leb v 1)) n c1 → Reads s c1 (ranged y (fraction-fits h)) f c2 → Reads s c (unsigned h k kind) (n * one + f) c2

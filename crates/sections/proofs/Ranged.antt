@@ -12,7 +12,7 @@ use Rattle.standard.specs.Parameters.{fp}
 use Rattle.plan.specs.declared.Header.{Header}
 use Rattle.plan.specs.Ranges.{within, coefficient-fits, unsigned-fits, fraction-fits}
 use Rattle.plan.proofs.Truths.{both}
-use Rattle.sections.specs.Sections.{signed, integer-fits}
+use Rattle.section_fields.specs.Fields.{signed, integer-fits}
 
 pub unsigned-in : (h : Header) (i f : ℕ) → leb i 1 ≡ true → fraction-fits h f ≡ true → unsigned-fits h (i * 2 ^ h .d + f) ≡ true
 unsigned-in h i f p q =
@@ -59,11 +59,3 @@ module _ (D f : ℕ) (small : f < D) where
 
 pub coefficient-in : (h : Header) (i f : ℕ) → integer-fits i ≡ true → fraction-fits h f ≡ true → coefficient-fits h (fp (h .d) (signed i) f) ≡ true
 coefficient-in h i f p q = either (2 ^ h .d) f (ltb-true f _ q) (ltb i 64) i refl p
-
--- an integer part is a byte
-pub integer-small : (i : ℕ) → integer-fits i ≡ true → i < 256
-integer-small i p = go (ltb i 64) refl p
-  where
-    go : (t : Bool) → ltb i 64 ≡ t → (t || within 192 255 i) ≡ true → i < 256
-    go true e p = omega (arith, ltb-true i 64 e)
-    go false e p = omega (arith, leb-true i 255 (both (leb 192 i) (leb i 255) p .1))

@@ -1,8 +1,5 @@
--- A section of the composing block (the house rules): pivots, pieces and the residual's numbers of one component. A field's kind, by
--- which a refusal names it, is its number in this list: 1 num_pivots_minus2, 2 pred_pivot_value, 3 mapping_idc, 4 poly_order_minus1,
--- 5 poly_coef_int, 6 poly_coef, 7 nlq_offset, 8 and 9 hdr_in_max, 10 and 11 linear_deadzone_slope, 12 and 13
--- linear_deadzone_threshold (integer part and fraction), 14 the bytes left over.
-use mathlib.Core.Bool.{Bool, cond, _||_}
+-- A section of the composing block (the house rules): pivots, pieces and the residual's numbers of one component.
+use mathlib.Core.Bool.{cond}
 use mathlib.Core.List.{List, []}
 use Prim.Native.Nat.{ℕ, _+_, _-_, _*_, _^_}
 use lib.Dec.{leb, ltb, eqb}
@@ -13,30 +10,13 @@ use Rattle.plan.specs.declared.Header.{Header}
 use Rattle.plan.specs.declared.Piece.{Piece}
 use Rattle.plan.specs.declared.Nlq.{Nlq}
 use Rattle.plan.specs.declared.Component.{Component}
-use Rattle.plan.specs.Ranges.{within, header-fits, count-fits, pivot-fits, order-fits, offset-fits, fraction-fits}
+use Rattle.plan.specs.Ranges.{header-fits, count-fits, pivot-fits, order-fits, offset-fits, fraction-fits}
 use Rattle.plan.specs.Rule7.{pivot-places, piece-places, row-places, pivots-used, pieces-used, coefficients-used, zero-piece, no-component}
 use Rattle.fields.specs.declared.Name.{Name}
-use Rattle.fields.specs.declared.Width.{Width}
 use Rattle.fields.specs.declared.Width.the-variants.{One, Two, Four}
-use Rattle.fields.specs.declared.Ask.{Ask}
 use Rattle.fields.specs.Fields.{Read, refused, got, _then_, no-name, field, repeated, padded, ended}
+use Rattle.section_fields.specs.Fields.{asked, ranged, signed, integer-fits, refused-idc}
 use Rattle.sections.specs.declared.Found.{Found}
-
--- what is asked of a field of section k, with its indices: 3 where it runs past its section
-abbrev pub asked : ℕ → ℕ → ℕ → ℕ → Width → Ask
-asked kind k i j width = record { name = record { kind = kind; first = k; second = i; third = j }; width = width; past = 3 }
-
--- a field that is refused 5 where it is outside its range
-abbrev pub ranged : Ask → (ℕ → Bool) → List ℕ → Read ℕ
-ranged a fits = field a fits (λ v. 5)
-
--- a byte as a signed number
-abbrev pub signed : ℕ → ℤ
-signed b = cond (ltb b 128) (pos b) (pos b -ℤ pos 256)
-
--- a coefficient's integer part, as the byte stands: -64 to 63
-abbrev pub integer-fits : ℕ → Bool
-integer-fits b = ltb b 64 || within 192 255 b
 
 -- coefficient i of piece p: a signed byte -64 to 63, and a fraction of 4 bytes
 unfoldable pub coefficient : Header → ℕ → ℕ → ℕ → List ℕ → Read ℤ
@@ -52,10 +32,7 @@ unsigned h k kind bytes =
     ranged (asked (kind + 1) k 0 0 Four) (fraction-fits h) rest then λ f rest.
     got (n * 2 ^ h .d + f) rest
 
--- mapping_idc of piece p in section k: 0 passes; 1 is refused 6 in sections 1 and 2; all else is refused 5
-abbrev pub refused-idc : ℕ → ℕ → ℕ
-refused-idc k v = cond (eqb v 1) (cond (eqb k 0) 5 6) 5
-
+-- mapping_idc of piece p
 abbrev pub idc : ℕ → ℕ → List ℕ → Read ℕ
 idc k p = field (asked 3 k p 0 One) (λ v. eqb v 0) (refused-idc k)
 

@@ -1,5 +1,4 @@
 // A section of the composing block, read to a component.
-pub mod kinds; // the kinds of its fields
 mod fraction; // numbers with a fraction
 mod pieces; // the pieces: mapping_idc, the order, the coefficients
 mod section; // the whole: pivots, pieces, the residual's numbers

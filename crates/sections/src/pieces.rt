@@ -1,25 +1,21 @@
 // The pieces of a section: mapping_idc, poly_order_minus1, and the coefficients.
-use crate::fraction::asked;
 use crate::fraction::coefficient;
-use crate::kinds::MAPPING_IDC;
-use crate::kinds::POLY_ORDER_MINUS1;
 use fields::Cursor;
-use fields::Field;
 use fields::Width;
 use fields::at_most;
-use fields::judged;
-use fields::raw;
 use plan::Header;
 use plan::Piece;
 use plan::limits::PIECES;
 use plan::limits::ROW;
-ghost use mathlib.Core.Path.{_≡_};
-ghost use Prim.Native.Nat.{_<_, _≤_};
+use section_fields::asked;
+use section_fields::idc;
+use section_fields::kinds::POLY_ORDER_MINUS1;
+ghost use Prim.Native.Nat.{_≤_};
 ghost use lib.IntN.{pos};
 ghost use Rattle.plan.specs.Facts.{HeaderFacts};
 ghost use Rattle.plan.specs.Rule7.{row-places, piece-places, zero-piece};
 ghost use Rattle.fields.specs.Cursors.{Reads, filled};
-ghost use Rattle.sections.specs.Sections.{refused-idc, idc, coefficient, piece};
+ghost use Rattle.sections.specs.Sections.{coefficient, piece};
 
 pub(crate) struct RowRead {
     pub(crate) list: [i64; ROW],
@@ -34,29 +30,6 @@ pub(crate) struct PieceRead {
 pub(crate) struct PiecesRead {
     pub(crate) list: [Piece; PIECES],
     pub(crate) next: Cursor,
-}
-
-// The rule that refuses a mapping_idc of section k that is not 0.
-fn refused_idc(k: usize, v: u64) -> u8
-    ensures { λ r. ⌜ r ≡ refused-idc k v ⌝ }
-{
-    if v == 1 {
-        if k == 0 {
-            return 5;
-        }
-        return 6;
-    }
-    5
-}
-
-fn idc(s: &[u8], c: Cursor, k: usize, p: usize) -> Field
-    ensures { λ r. ⌜ Reads (now (s .entry)) c (idc k p) (r .value) (r .next) × (r .value < 256) ⌝ }
-{
-    let a = asked(MAPPING_IDC, k, p, 0, Width::One);
-    let name = a.name;
-    let f = raw(s, c, a);
-    let v = f.value;
-    judged(c, name, f, v == 0, refused_idc(k, v))
 }
 
 fn row(s: &[u8], c: Cursor, h: Header, k: usize, p: usize, count: usize) -> RowRead

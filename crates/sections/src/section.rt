@@ -1,33 +1,29 @@
 // The whole of a section: the number of pivots, the pivots, the pieces and the residual's numbers, and nothing left over.
-use crate::fraction::asked;
-use crate::fraction::power;
+use crate::fraction::below_power;
 use crate::fraction::unsigned;
-use crate::kinds::HDR_IN_MAX_INT;
-use crate::kinds::LEFT_OVER;
-use crate::kinds::NLQ_OFFSET;
-use crate::kinds::NUM_PIVOTS_MINUS2;
-use crate::kinds::PRED_PIVOT_VALUE;
-use crate::kinds::SLOPE_INT;
-use crate::kinds::THRESHOLD_INT;
 use crate::pieces::pieces;
-use fields::Ask;
 use fields::Cursor;
-use fields::Field;
 use fields::Width;
 use fields::at_most;
-use fields::below;
 use fields::ended;
 use plan::Component;
 use plan::Header;
 use plan::Nlq;
 use plan::limits::MOST_N;
 use plan::limits::PIVOTS;
-ghost use Prim.Native.Nat.{_+_, _^_, _<_, _≤_};
-ghost use lib.Dec.{ltb};
+use section_fields::asked;
+use section_fields::kinds::HDR_IN_MAX_INT;
+use section_fields::kinds::LEFT_OVER;
+use section_fields::kinds::NLQ_OFFSET;
+use section_fields::kinds::NUM_PIVOTS_MINUS2;
+use section_fields::kinds::PRED_PIVOT_VALUE;
+use section_fields::kinds::SLOPE_INT;
+use section_fields::kinds::THRESHOLD_INT;
+ghost use Prim.Native.Nat.{_≤_};
 ghost use Rattle.plan.specs.Facts.{HeaderFacts};
 ghost use Rattle.plan.specs.Rule7.{pivot-places};
 ghost use Rattle.fields.specs.Cursors.{Reads, filled, start};
-ghost use Rattle.sections.specs.Sections.{ranged, pivot, nlq, section};
+ghost use Rattle.sections.specs.Sections.{pivot, nlq, section};
 
 pub(crate) struct PivotsRead {
     pub(crate) list: [u16; PIVOTS],
@@ -44,15 +40,6 @@ pub(crate) struct SectionRead {
     pub(crate) next: Cursor,
 }
 
-// A field of a sample's size, by its depth less 8.
-fn sample(s: &[u8], c: Cursor, a: Ask, depth: u8) -> Field
-    requires { ⌜ depth ≤ 2 ⌝ }
-    ensures { λ r. ⌜ Reads (now (s .entry)) c (ranged a (λ v. ltb v (2 ^ (depth + 8)))) (r .value) (r .next) × (r .value < 2 ^ 16) ⌝ }
-{
-    let limit = power(depth + 8);
-    below(s, c, a, limit, 5)
-}
-
 fn pivots(s: &[u8], c: Cursor, h: Header, k: usize, count: usize) -> PivotsRead
     requires { ⌜ HeaderFacts h × (count ≤ pivot-places) ⌝ }
     ensures { λ r. ⌜ Reads (now (s .entry)) c (filled pivot-places 0 count (pivot h k)) (r .list) (r .next) ⌝ }
@@ -61,7 +48,12 @@ fn pivots(s: &[u8], c: Cursor, h: Header, k: usize, count: usize) -> PivotsRead
     let mut next = c;
     let mut i: usize = 0;
     while i < count {
-        let f = sample(s, next, asked(PRED_PIVOT_VALUE, k, i, 0, Width::Two), h.bl);
+        let f = below_power(
+            s,
+            next,
+            asked(PRED_PIVOT_VALUE, k, i, 0, Width::Two),
+            h.bl + 8,
+        );
         list[i] = f.value as u16;
         next = f.next;
         i += 1;
@@ -76,7 +68,7 @@ fn nlq(s: &[u8], c: Cursor, h: Header, k: usize) -> NlqRead
     requires { ⌜ HeaderFacts h ⌝ }
     ensures { λ r. ⌜ Reads (now (s .entry)) c (nlq h k) (r .nlq) (r .next) ⌝ }
 {
-    let o = sample(s, c, asked(NLQ_OFFSET, k, 0, 0, Width::Two), h.el);
+    let o = below_power(s, c, asked(NLQ_OFFSET, k, 0, 0, Width::Two), h.el + 8);
     let c1 = o.next;
     let m = unsigned(s, c1, h, k, HDR_IN_MAX_INT);
     let c2 = m.next;

@@ -11,7 +11,7 @@ returns c =
     let x : tie.After-asked = search needs in
     let o : tie.After-at-most = search needs in
     let r : tie.After-row = search needs in
-    made-piece _ _ _ _ _ (x .asked .ensures) (m .idc .ensures .0) (stepped _ _ _ _ _ (o .at-most .ensures .0)) (r .row .ensures)
+    made-piece _ _ _ _ _ (x .asked .ensures) (stepped _ _ _ _ _ (m .idc .ensures .0)) (stepped _ _ _ _ _ (o .at-most .ensures .0)) (r .row .ensures)
 
 pub piece-spec : {M : Type 1} → statement M
 piece-spec =

@@ -1,7 +1,8 @@
 -- `pivots` meets its contract. The loop's invariant: what is left to read goes into the array from place i on. Assumes nothing.
-use Prim.Native.Nat.{_-_}
+use Prim.Native.Nat.{_+_, _-_}
 use native.Mathlib.Omega.{arith}
 use borrow.Author.Needs.{needs}
+use lib.Pow.{pow-mono}
 use Rattle.plan.specs.Rule7.{pivot-places}
 use Rattle.fields.specs.Cursors.{from, filled}
 use Rattle.fields.proofs.Filling.{Filling, begun, more, finished}
@@ -15,12 +16,18 @@ Inv-loop s h k count list₀ next₀ i₀ list next i = Filling s (pivot h k) co
 abbrev μ-loop : tie.MeasureT-loop
 μ-loop s h k count list₀ next₀ i₀ list next i = count - i
 
+cast-list : tie.Need-cast-list Inv-loop μ-loop
+cast-list c =
+    let st : tie.Start Inv-loop μ-loop = search needs in
+    let f : tie.After-below-power Inv-loop μ-loop = search needs in
+    record { fits = omega (arith, f .below-power .ensures .1, pow-mono {i = st .args .h .bl + 8} {j = 10} (omega arith)) }
+
 loop-again : tie.Need-loop-again Inv-loop μ-loop
 loop-again c =
     let l : tie.At-loop Inv-loop μ-loop = search needs in
     let a : tie.After-asked Inv-loop μ-loop = search needs in
-    let f : tie.After-sample Inv-loop μ-loop = search needs in
-    more (search needs) (rw (a .asked .ensures) at (f .sample .ensures .0)) (l .loop .inv)
+    let f : tie.After-below-power Inv-loop μ-loop = search needs in
+    more (search needs) (rw (a .asked .ensures) at (f .below-power .ensures .0)) (l .loop .inv)
 
 pub pivots-spec : {M : Type 1} → statement M
 pivots-spec =
@@ -30,8 +37,9 @@ pivots-spec =
     μ-loop
     (λ c. begun pivot-places 0 _)
     (λ c κs. search needs)
-    (λ c κs. search needs)
     (λ c. search needs)
+    (λ c κs. search needs)
+    cast-list
     (λ c. search needs)
     (λ c. search needs)
     (λ c. omega arith)

@@ -1,8 +1,8 @@
 -- `refused_idc` meets its contract. Assumes nothing.
 use borrow.Author.Needs.{needs}
 use borrow.Author.Tests.{eq-eqb, ne-eqb}
-use Rattle.sections.proofs.pieces.refused_idc.Statement.{statement}
-use Rattle.sections.proofs.pieces.refused_idc.Tie as tie
+use Rattle.section_fields.proofs.refused_idc.Statement.{statement}
+use Rattle.section_fields.proofs.refused_idc.Tie as tie
 
 returns : tie.Need-returns
 returns c =
