@@ -7,11 +7,11 @@ use native.Mathlib.Numerals.{add-one}
 use native.Mathlib.Omega.{arith}
 use lib.ListN.{length, getD, take, drop}
 use lib.Seq.{drop-cons}
-use Rattle.fields.specs.Fields.{number-after, number-of}
+use Rattle.fields.specs.Fields.{number-after, number}
 
 -- v is the number of the first i bytes of w, and the others are to follow
 pub record After (s : List ℕ) (at w v i : ℕ) : Type 0 where
-  pub is : number-after v (take (w - i) (drop (at + i) s)) ≡ number-of s at w
+  pub is : number-after v (take (w - i) (drop (at + i) s)) ≡ number (take w (drop at s))
 
 pub none : (s : List ℕ) (at w : ℕ) → After s at w 0 0
 none s at w =
@@ -27,7 +27,7 @@ more {s} {at} {w} {v} {i} h k e =
     let d : at + i < length s = omega arith in
     record { is = rw b (rw (a, drop-cons s (at + i) 0 d) at (e .is)) }
 
-pub ended : {s : List ℕ} {at w v i : ℕ} → w ≤ i → After s at w v i → v ≡ number-of s at w
+pub ended : {s : List ℕ} {at w v i : ℕ} → w ≤ i → After s at w v i → v ≡ number (take w (drop at s))
 unfolding number-after
 ended {w = w} {i = i} h e =
     let a : w - i ≡ 0 = omega arith in

@@ -12,7 +12,7 @@ use Rattle.fields.specs.declared.Name.{Name}
 use Rattle.fields.specs.declared.Ask.{Ask}
 use Rattle.fields.specs.declared.Cursor.{Cursor}
 use Rattle.fields.specs.declared.Field.{Field}
-use Rattle.fields.specs.Fields.{Read, refused, got, wide, number, number-of, anything, always, field, ended}
+use Rattle.fields.specs.Fields.{Read, refused, got, wide, number, field, ended}
 use Rattle.fields.specs.Cursors.{going, halted, step, judged, over, from, Reads}
 
 -- a field whose value, and the bytes that it has passed, are plain variables
@@ -33,12 +33,12 @@ module _ (c : Cursor) (name : Name) (past v next : ℕ) where
 
 module _ (s : List ℕ) (c : Cursor) (a : Ask) (fits : ℕ → Bool) (rule : ℕ → ℕ) (P : ℕ → Type 0) where
   -- what is judged is what fits, or is refused; it has what 0 has and what all that fits has
-  pub settled : {f r : Field} → P 0 → ((v : ℕ) → fits v ≡ true → P v) → f ≡ step s c a anything always → r ≡ judged c (a .name) f (fits (f .value)) (rule (f .value))
+  pub settled : {f r : Field} → P 0 → ((v : ℕ) → fits v ≡ true → P v) → f ≡ step s c a (λ v. true) (λ v. 0) → r ≡ judged c (a .name) f (fits (f .value)) (rule (f .value))
       → (r ≡ step s c a fits rule) × P (r .value)
   unfolding step
   settled {f} {r} z p e g =
       let w = wide (a .width) in
-      let v = number-of s (c .at) w in
+      let v = number (take w (drop (c .at) s)) in
       let q = ltb (length (drop (c .at) s)) w in
       let is : r ≡ step s c a fits rule = g ∙ ap (λ (x : Field). judged c (a .name) x (fits (x .value)) (rule (x .value))) e ∙ judging c (a .name) (a .past) v (c .at + w) (c .stopped) q fits rule refl in
       (is, subst (λ (x : Field). P (x .value)) (sym is) (kept c (a .name) (a .past) v (c .at + w) P (c .stopped) q (fits v) (rule v) z (p v)))

@@ -4,12 +4,12 @@ use mathlib.Core.Path.{_≡_}
 use mathlib.Core.List.{List}
 use Prim.Native.Nat.{ℕ, _+_, _≤_}
 use lib.Dec.{ltb}
-use lib.ListN.{length, drop}
+use lib.ListN.{length, take, drop}
 use Rattle.fields.specs.declared.Name.{Name}
 use Rattle.fields.specs.declared.Ask.{Ask}
 use Rattle.fields.specs.declared.Cursor.{Cursor}
 use Rattle.fields.specs.declared.Field.{Field}
-use Rattle.fields.specs.Fields.{Read, refused, got, _then_, wide, no-name, number-of, repeated, padded}
+use Rattle.fields.specs.Fields.{Read, refused, got, _then_, wide, no-name, number, repeated, padded}
 
 -- a cursor that has met no failure, and the one before the first field
 abbrev pub going : ℕ → Cursor
@@ -26,7 +26,7 @@ halted c name k = record { value = 0; next = record { at = c .at; stopped = true
 unfoldable pub step : List ℕ → Cursor → Ask → (ℕ → Bool) → (ℕ → ℕ) → Field
 step s c a fits rule =
     let w = wide (a .width) in
-    let v = number-of s (c .at) w in
+    let v = number (take w (drop (c .at) s)) in
     cond (c .stopped) (record { value = 0; next = c })
     (cond (ltb (length (drop (c .at) s)) w) (halted c (a .name) (a .past))
     (cond (fits v) (record { value = v; next = going (c .at + w) }) (halted c (a .name) (rule v))))

@@ -1,5 +1,5 @@
 -- Reading field by field: the first failure met is the answer.
-use mathlib.Core.Bool.{Bool, true, cond}
+use mathlib.Core.Bool.{Bool, cond}
 use mathlib.Core.List.{List, [], _∷_}
 use Prim.Native.Nat.{ℕ, zero, suc, _+_, _*_}
 use lib.Dec.{leb, ltb}
@@ -29,11 +29,8 @@ abbrev pub number : List ℕ → ℕ
 number bytes = number-after 0 bytes
 
 -- the number of the w bytes from a on, and 0 where they are not all there
-abbrev pub number-of : List ℕ → ℕ → ℕ → ℕ
-number-of bytes a w = number (take w (drop a bytes))
-
 abbrev pub number-at : List ℕ → ℕ → ℕ → ℕ
-number-at bytes a w = cond (leb (a + w) (length bytes)) (number-of bytes a w) 0
+number-at bytes a w = cond (leb (a + w) (length bytes)) (number (take w (drop a bytes))) 0
 
 abbrev pub wide : Width → ℕ
 wide One = 1
@@ -50,13 +47,6 @@ field a fits rule bytes =
     let v = number (take w bytes) in
     cond (ltb (length bytes) w) (refused (a .past) (a .name) bytes)
     (cond (fits v) (got v (drop w bytes)) (refused (rule v) (a .name) bytes))
-
--- every value fits, and no rule refuses one
-abbrev pub anything : ℕ → Bool
-anything v = true
-
-abbrev pub always : ℕ → ℕ
-always v = 0
 
 -- the same reading n times, for the indices from i on
 unfoldable pub repeated : {A : Type 0} → ℕ → ℕ → (ℕ → List ℕ → Read A) → List ℕ → Read (List A)

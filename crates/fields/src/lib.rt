@@ -4,10 +4,11 @@ pub mod numbers; // big-endian numbers that stand at a place
 
 use numbers::number;
 use numbers::width_of;
+ghost use mathlib.Core.Bool.{true};
 ghost use mathlib.Core.Path.{_≡_};
 ghost use Prim.Native.Nat.{_^_, _≤_, _<_};
 ghost use lib.Dec.{leb, ltb};
-ghost use Rattle.fields.specs.Fields.{wide, no-name, anything, always};
+ghost use Rattle.fields.specs.Fields.{wide, no-name};
 ghost use Rattle.fields.specs.Cursors.{start, halted, step, judged, over};
 
 // Which field: a kind, by the numbers of the crate that reads it, and as many indices as it has.
@@ -85,7 +86,7 @@ fn halted(c: Cursor, name: Name, k: u8) -> Field
 
 // A field, whatever it holds.
 pub fn raw(s: &[u8], c: Cursor, a: Ask) -> Field
-    ensures { λ r. ⌜ r ≡ step (now (s .entry)) c a anything always ⌝ }
+    ensures { λ r. ⌜ r ≡ step (now (s .entry)) c a (λ v. true) (λ v. 0) ⌝ }
     ensures small { λ r. ⌜ r .value < 256 ^ wide (a .width) ⌝ }
 {
     let at = c.at;

@@ -2,8 +2,8 @@
 use crate::Width;
 ghost use mathlib.Core.Path.{_≡_};
 ghost use Prim.Native.Nat.{_+_, _^_, _<_, _≤_};
-ghost use lib.ListN.{length};
-ghost use Rattle.fields.specs.Fields.{wide, number-of, number-at};
+ghost use lib.ListN.{length, take, drop};
+ghost use Rattle.fields.specs.Fields.{wide, number, number-at};
 
 pub(crate) fn width_of(w: Width) -> usize
     ensures { λ r. ⌜ (r ≡ wide w) × ((0 < r) × (r ≤ 4)) ⌝ }
@@ -24,7 +24,7 @@ fn byte(b: u8) -> u64
 // The number of the w bytes from `at` on.
 pub(crate) fn number(s: &[u8], at: usize, w: usize) -> u64
     requires { ⌜ (at + w ≤ length (now s)) × (w ≤ 4) ⌝ }
-    ensures { λ r. ⌜ (r ≡ number-of (now (s .entry)) at w) × (r < 256 ^ w) ⌝ }
+    ensures { λ r. ⌜ (r ≡ number (take w (drop at (now (s .entry))))) × (r < 256 ^ w) ⌝ }
 {
     let mut v: u64 = 0;
     let mut i: usize = 0;

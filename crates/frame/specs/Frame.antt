@@ -12,15 +12,7 @@ use Rattle.frame.specs.declared.Trailer.{Trailer}
 
 -- the trailer's 12 bytes: A, D0, D1, D2 and the version, each of 16 bits, then 16 bits of zero
 unfoldable pub trailer : List ℕ → Trailer
-trailer bytes =
-    record {
-      a = number-at bytes 0 2;
-      d0 = number-at bytes 2 2;
-      d1 = number-at bytes 4 2;
-      d2 = number-at bytes 6 2;
-      version = number-at bytes 8 2;
-      last = number-at bytes 10 2;
-    }
+trailer bytes = record { a = number-at bytes 0 2; d0 = number-at bytes 2 2; d1 = number-at bytes 4 2; d2 = number-at bytes 6 2; version = number-at bytes 8 2; last = number-at bytes 10 2 }
 
 -- rule 2 is not met: version 1, last field 0, A - D0 = 24, and D0 > D1 > D2 > 0, all over unbounded numbers
 abbrev pub trailer-tests : Trailer → List Bool
@@ -59,11 +51,9 @@ first-wrong k (t ∷ ts) rest = cond t (first-wrong (k + 1) ts rest) k
 
 -- the column that a refused header is named by: kinds 15 to 22 are its bytes 0 to 6 (the depths, of which 19 is that they differ, before d),
 -- 23 to 29 its bytes 7 to 23
-unfoldable pub later-columns : Header → Bool → Bool → Bool → ℕ
-later-columns h zero7 zero14 zero20 =
-    first-wrong 23 (zero7 ∷ take 3 (size-tests h)) (first-wrong 27 (zero14 ∷ drop 3 (size-tests h)) (first-wrong 29 (zero20 ∷ []) 0))
-
 unfoldable pub wrong-column : List ℕ → Header → Name
 wrong-column head h =
-    let later = later-columns h (eqb (number-at head 7 1) 0) (eqb (number-at head 14 2) 0) (eqb (number-at head 20 4) 0) in
-    record { kind = first-wrong 15 (format-tests h) later; first = 0; second = 0; third = 0 }
+    let last = first-wrong 29 (eqb (number-at head 20 4) 0 ∷ []) 0 in
+    let luminance = first-wrong 27 (eqb (number-at head 14 2) 0 ∷ drop 3 (size-tests h)) last in
+    let size = first-wrong 23 (eqb (number-at head 7 1) 0 ∷ take 3 (size-tests h)) luminance in
+    record { kind = first-wrong 15 (format-tests h) size; first = 0; second = 0; third = 0 }

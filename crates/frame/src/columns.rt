@@ -23,9 +23,10 @@ use plan::limits::MOST_COLUMNS;
 use plan::limits::MOST_PAIRS;
 ghost use mathlib.Core.Path.{_≡_};
 ghost use mathlib.Core.Bool.{cond};
+ghost use mathlib.Core.List.{[], _∷_};
 ghost use lib.ListN.{take, drop};
-ghost use Rattle.plan.specs.Ranges.{format-tests};
-ghost use Rattle.frame.specs.Frame.{first-wrong, later-columns, wrong-column};
+ghost use Rattle.plan.specs.Ranges.{format-tests, size-tests};
+ghost use Rattle.frame.specs.Frame.{first-wrong, wrong-column};
 
 fn pick(fits: bool, kind: u8, rest: u8) -> u8
     ensures { λ r. ⌜ r ≡ cond fits rest kind ⌝ }
@@ -61,7 +62,7 @@ fn wrong_format(h: Header, rest: u8) -> u8
 
 // The first of the columns from byte 7 on, with the three zero fields' tests.
 fn wrong_size(h: Header, zero7: bool, zero14: bool, zero20: bool) -> u8
-    ensures { λ r. ⌜ r ≡ later-columns h zero7 zero14 zero20 ⌝ }
+    ensures { λ r. ⌜ r ≡ first-wrong 23 (zero7 ∷ take 3 (size-tests h)) (first-wrong 27 (zero14 ∷ drop 3 (size-tests h)) (first-wrong 29 (zero20 ∷ []) 0)) ⌝ }
 {
     let last = pick(zero20, ZERO_20, 0);
     let darkest = pick(h.darkest < 10000 * (h.brightest as u32), DARKEST, last);

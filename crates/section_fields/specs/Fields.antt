@@ -16,11 +16,8 @@ abbrev pub asked : ℕ → ℕ → ℕ → ℕ → Width → Ask
 asked kind k i j width = record { name = record { kind = kind; first = k; second = i; third = j }; width = width; past = 3 }
 
 -- a field that is refused 5 where it is outside its range
-abbrev pub five : ℕ → ℕ
-five v = 5
-
 abbrev pub ranged : Ask → (ℕ → Bool) → List ℕ → Read ℕ
-ranged a fits = field a fits five
+ranged a fits = field a fits (λ v. 5)
 
 -- a byte as a signed number
 abbrev pub signed : ℕ → ℤ

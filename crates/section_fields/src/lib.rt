@@ -16,7 +16,7 @@ ghost use lib.Dec.{eqb};
 ghost use lib.IntN.{natAbs};
 ghost use Rattle.fields.specs.Cursors.{step};
 ghost use Rattle.fields.specs.declared.Width.the-variants.{One};
-ghost use Rattle.section_fields.specs.Fields.{asked, five, signed, integer-fits, refused-idc};
+ghost use Rattle.section_fields.specs.Fields.{asked, signed, integer-fits, refused-idc};
 
 // What is asked of a field of section k.
 pub fn asked(kind: u8, k: usize, i: usize, j: usize, width: Width) -> Ask
@@ -36,7 +36,7 @@ pub fn asked(kind: u8, k: usize, i: usize, j: usize, width: Width) -> Ask
 
 // The integer part of coefficient i of piece p, as the byte stands.
 pub fn integer(s: &[u8], c: Cursor, k: usize, p: usize, i: usize) -> Field
-    ensures { λ r. ⌜ (r ≡ step (now (s .entry)) c (asked 5 k p i One) integer-fits five) × (r .value < 256) ⌝ }
+    ensures { λ r. ⌜ (r ≡ step (now (s .entry)) c (asked 5 k p i One) integer-fits (λ v. 5)) × (r .value < 256) ⌝ }
 {
     let a = asked(POLY_COEF_INT, k, p, i, Width::One);
     let name = a.name;

@@ -15,14 +15,14 @@ use Rattle.fields.specs.declared.Width.{Width}
 use Rattle.fields.specs.declared.Width.the-variants.{One, Two, Four}
 use Rattle.fields.specs.Fields.{Read, refused, got, no-name, repeated}
 use Rattle.fields.proofs.Giving.{Each, Gives, then-gives, field-gives, repeated-gives, ended-gives}
-use Rattle.section_fields.specs.Fields.{asked, ranged, integer-fits, refused-idc, five}
+use Rattle.section_fields.specs.Fields.{asked, ranged, integer-fits, refused-idc}
 use Rattle.sections.specs.Sections.{coefficient, unsigned, idc, piece, pivot, nlq, counted, section, under, found}
 use Rattle.sections.proofs.Places.{and, places}
 use Rattle.sections.proofs.Ranged.{unsigned-in, coefficient-in}
 
 -- a field that has a range
 in-range : (kind k i j : ℕ) (w : Width) (fits : ℕ → Bool) (bytes : List ℕ) → Gives (λ v. fits v ≡ true) (ranged (asked kind k i j w) fits bytes)
-in-range kind k i j w fits bytes = field-gives (asked kind k i j w) fits five (λ z. omega arith) (λ v z. omega arith) bytes
+in-range kind k i j w fits bytes = field-gives (asked kind k i j w) fits (λ v. 5) (λ z. omega arith) (λ v z. omega arith) bytes
 
 some-rule : (k v : ℕ) → refused-idc k v ≡ 0 → ⊥
 some-rule k v = go (eqb v 1) (eqb k 0)

@@ -1,11 +1,9 @@
 -- `wrong_size` meets its contract. Assumes nothing.
 use borrow.Author.Needs.{needs}
-use Rattle.frame.specs.Frame.{later-columns}
 use Rattle.frame.proofs.columns.wrong_size.Statement.{statement}
 use Rattle.frame.proofs.columns.wrong_size.Tie as tie
 
 returns : tie.Need-returns
-unfolding later-columns
 returns c =
     let p1 : tie.After-pick = search needs in
     let p2 : tie.After-pick2 = search needs in
