@@ -52,9 +52,7 @@ pub read-section-spec : {M : Type 1} → statement M
 read-section-spec =
     tie.close
     (tie.spec
-    (λ c κs. search needs)
-    (λ c κs. search needs)
-    (λ c κs. search needs)
+    (λ c κs. search needs) (λ c κs. search needs) (λ c κs. search needs)
     returns
     section-requires
     (λ c κs. search needs)

@@ -28,9 +28,7 @@ pieces-spec =
     Inv-loop
     μ-loop
     (λ c. begun piece-places zero-piece _)
-    (λ c κs. search needs)
-    (λ c. search needs)
-    (λ c. search needs)
+    (λ c κs. search needs) (λ c. search needs) (λ c. search needs)
     (λ c. omega arith)
     (λ c. omega arith)
     loop-again

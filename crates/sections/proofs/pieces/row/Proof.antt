@@ -33,9 +33,7 @@ row-spec =
     Inv-loop
     μ-loop
     (λ c. begun row-places (pos 0) _)
-    (λ c κs. search needs)
-    (λ c. search needs)
-    (λ c. search needs)
+    (λ c κs. search needs) (λ c. search needs) (λ c. search needs)
     (λ c. omega arith)
     (λ c. omega arith)
     loop-again

@@ -36,12 +36,9 @@ pivots-spec =
     Inv-loop
     μ-loop
     (λ c. begun pivot-places 0 _)
-    (λ c κs. search needs)
-    (λ c. search needs)
-    (λ c κs. search needs)
+    (λ c κs. search needs) (λ c. search needs) (λ c κs. search needs)
     cast-list
-    (λ c. search needs)
-    (λ c. search needs)
+    (λ c. search needs) (λ c. search needs)
     (λ c. omega arith)
     (λ c. omega arith)
     loop-again
