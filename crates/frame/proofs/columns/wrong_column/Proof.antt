@@ -13,9 +13,4 @@ returns c =
     rw (c .wrong-format .ensures, w .wrong-size .ensures, a .one .ensures, b .two .ensures, d .four .ensures)
 
 pub wrong-column-spec : {M : Type 1} → statement M
-wrong-column-spec =
-    tie.close
-    (tie.spec
-    (λ c κs. search needs) (λ c κs. search needs) (λ c κs. search needs) (λ c κs. search needs)
-    (λ c κs. search needs)
-    returns)
+wrong-column-spec = tie.close (tie.spec (λ c κs. search needs) (λ c κs. search needs) (λ c κs. search needs) (λ c κs. search needs) (λ c κs. search needs) returns)
