@@ -1,47 +1,76 @@
--- What a section comes to, and what follows it. Assumes nothing.
+-- What the sections come to: a failure is the answer, or else what follows; and an accepted plan passes rule 7. Assumes nothing.
 use mathlib.Core.Path.{_≡_, refl, sym, ap, _∙_}
-use mathlib.Core.Bool.{Bool, true, false, cond}
+use mathlib.Core.Bool.{Bool, true, false, cond, not, _&&_}
 use mathlib.Core.List.{List}
 use Prim.Native.Nat.{ℕ, _+_, _-_, _≤_}
 use native.Mathlib.Omega.{arith}
-use lib.Dec.{eqb}
+use lib.Dec.{eqb, ltb}
 use lib.ListN.{length, drop, length-drop}
 use lib.Seq.{length-take-le}
-use borrow.Author.Tests.{eq-eqb, ne-eqb}
+use borrow.Author.Tests.{eq-eqb, ne-eqb, eqb-true, eqb-false, not-false}
 use Rattle.plan.specs.declared.Header.{Header}
 use Rattle.plan.specs.declared.Component.{Component}
+use Rattle.plan.specs.Ranges.{header-fits}
+use Rattle.plan.specs.Rule7.{component-fits, fitting}
+use Rattle.plan.proofs.Truths.{both}
+use Rattle.fields.specs.declared.Name.{Name}
+use Rattle.sections.specs.declared.Found.{Found}
+use Rattle.sections.proofs.Places.{and}
+use Rattle.sections.proofs.Fitting.{accepted}
 use Rattle.block.specs.declared.Reading.{Reading}
-use Rattle.block.specs.declared.Found.{Found}
-use Rattle.block.specs.declared.cursor.Cursor.{Cursor}
-use Rattle.block.specs.Fields.{Read, refused, got}
-use Rattle.block.specs.Sections.{section}
-use Rattle.block.specs.Reading.{part, refusal, met}
-use Rattle.block.specs.Cursors.{from, Reads, fresh}
-use Rattle.block.specs.Frames.{Met}
+use Rattle.frame.specs.declared.Trailer.{Trailer}
+use Rattle.frame.specs.Frame.{trailer, trailer-fits, header, zeros-fit, wrong-column}
+use Rattle.block.specs.Reading.{tail, part, refusal, section-at, met, sections, body, read}
+use Rattle.block.specs.Facts.{Sound}
 
 pub part-length : (bytes : List ℕ) (a b : ℕ) → b ≤ length bytes → length (part bytes a b) ≡ b - a
 part-length bytes a b h =
     let e : b - a ≤ length bytes - a = omega arith in
     length-take-le (b - a) (drop a bytes) (rw (length-drop a bytes) e)
 
-module _ (bytes : List ℕ) (a b : ℕ) (h : Header) (k : ℕ) where
-  met-cond : (t : Bool) (n place : ℕ) (c : Component) (rest : List ℕ) (next : Component → Reading) → b - length rest ≡ place
-      → met b (cond t (got c rest) (refused n rest)) next ≡ cond t (next c) (refusal n place)
-  met-cond true n place c rest next e = refl
-  met-cond false n place c rest next e = ap (refusal n) e
-
-  pub held : {c : Component} {end : Cursor} → a ≤ b → b ≤ length bytes → Reads (part bytes a b) fresh (section h k) c end → Met bytes a b h k (record { component = c; failure = end .failure; place = a + end .at })
-  unfolding from
-  held {c} {end} l m r =
-      let s = part bytes a b in
-      let e : b - length (drop (end .at) s) ≡ a + end .at = rw (length-drop (end .at) s) (omega (arith, part-length bytes a b m, r .inside)) in
-      record { is = λ next. ap (λ (x : Read Component). met b x next) (sym (r .is)) ∙ met-cond (eqb (end .failure) 0) (end .failure) (a + end .at) c (drop (end .at) s) next e }
-
-module _ {bytes : List ℕ} {a b : ℕ} {h : Header} {k : ℕ} {r : Found} {x : Reading} (next : Component → Reading) (m : Met bytes a b h k r) where
+module _ (a : ℕ) (next : Component → Reading) {r f : Found} {x : Reading} (e : r ≡ f) where
   -- a failure is the answer
-  pub stop : (r .failure ≡ 0 → ⊥) → x ≡ refusal (r .failure) (r .place) → x ≡ met b (section h k (part bytes a b)) next
-  stop f e = e ∙ sym (m .is next ∙ rw (ne-eqb (r .failure) 0 f))
+  pub stop : (r .number ≡ 0 → ⊥) → x ≡ refusal (r .number) (a + r .place) (r .field) → x ≡ met a f next
+  unfolding met
+  stop g p = p ∙ sym (ap (λ (f : Found). met a f next) (sym e) ∙ rw (ne-eqb (r .number) 0 g))
 
   -- else what follows
-  pub go : r .failure ≡ 0 → x ≡ next (r .component) → x ≡ met b (section h k (part bytes a b)) next
-  go f e = e ∙ sym (m .is next ∙ rw (eq-eqb (r .failure) 0 f))
+  pub go : r .number ≡ 0 → x ≡ next (r .component) → x ≡ met a f next
+  unfolding met
+  go g p = p ∙ sym (ap (λ (f : Found). met a f next) (sym e) ∙ rw (eq-eqb (r .number) 0 g))
+
+either : (t : Bool) {a b : Reading} → Sound a → (t ≡ false → Sound b) → Sound (cond t a b)
+either true p q = p
+either false p q = q refl
+
+refusing : (k place : ℕ) (name : Name) → (k ≡ 0 → ⊥) → Sound (refusal k place name)
+refusing k place name f = record { passes = λ e. absurd (f e); empty = λ _. refl }
+
+module _ (bytes : List ℕ) (h : Header) where
+  met-sound : (k a b : ℕ) (next : Component → Reading) → ((c : Component) → component-fits h c ≡ true → Sound (next c)) → Sound (met a (section-at bytes a b h k) next)
+  unfolding met
+  met-sound k a b next f = go (eqb (section-at bytes a b h k .number) 0) refl
+    where
+      go : (t : Bool) → let x = section-at bytes a b h k in eqb (x .number) 0 ≡ t → Sound (cond t (next (x .component)) (refusal (x .number) (a + x .place) (x .field)))
+      go true e = f _ (accepted h k (part bytes a b) (eqb-true _ 0 e))
+      go false e = refusing _ _ _ (eqb-false _ 0 e)
+
+  sections-sound : (t : ℕ) (x : Trailer) → header-fits h ≡ true → Sound (sections bytes t x h)
+  unfolding sections fitting
+  sections-sound t x e =
+      met-sound 0 (t - x .d0) (t - x .d1) _ (λ y p.
+      met-sound 1 (t - x .d1) (t - x .d2) _ (λ cb q.
+      met-sound 2 (t - x .d2) t _ (λ cr r.
+      record { passes = λ z. and e (and p (and q r)); empty = λ z. absurd (z refl) })))
+
+pub sound : (bytes : List ℕ) → Sound (read bytes)
+unfolding read body
+sound bytes =
+    let t = length bytes - 12 in
+    let x = trailer (tail bytes) in
+    let head = part bytes (t - x .a) (t - x .d0) in
+    either (ltb (length bytes) 12) (refusing 1 0 _ (λ z. omega arith)) (λ _.
+    either (not (trailer-fits x)) (refusing 2 t _ (λ z. omega arith)) (λ _.
+    either (ltb t (x .a)) (refusing 1 0 _ (λ z. omega arith)) (λ _.
+    either (not (header-fits (header head) && zeros-fit head)) (refusing 4 (t - x .a) _ (λ z. omega arith)) (λ e.
+    sections-sound bytes (header head) t x (both (header-fits (header head)) _ (not-false _ e) .0)))))

@@ -7,33 +7,36 @@ use lib.ListN.{length}
 use borrow.Author.Tests.{eqb-true, ltb-true, lt-ltb, le-ltb}
 use Rattle.plan.specs.Ranges.{header-fits}
 use Rattle.plan.proofs.Truths.{each}
-use Rattle.block.specs.Reading.{Trailer, part, trailer, trailer-fits, trailer-tests, header, zeros-fit, refusal, sections, read}
-use Rattle.block.specs.Frames.{Placed, body}
+use Rattle.fields.specs.Fields.{no-name}
+use Rattle.frame.specs.declared.Trailer.{Trailer}
+use Rattle.frame.specs.Frame.{trailer, trailer-fits, trailer-tests, header, zeros-fit, wrong-column}
+use Rattle.block.specs.Reading.{tail, part, refusal, sections, body, read}
+use Rattle.block.specs.Facts.{Placed}
 
 module _ (bytes : List ℕ) where
-  pub too-short : length bytes < 12 → refusal 1 0 ≡ read bytes
+  pub too-short : length bytes < 12 → refusal 1 0 no-name ≡ read bytes
   unfolding read
   too-short h = rw (lt-ltb _ _ h)
 
   module _ (h : 12 ≤ length bytes) where
-    pub bad-trailer : trailer-fits (trailer bytes) ≡ false → refusal 2 (length bytes - 12) ≡ read bytes
+    pub bad-trailer : trailer-fits (trailer (tail bytes)) ≡ false → refusal 2 (length bytes - 12) no-name ≡ read bytes
     unfolding read
     bad-trailer e = rw (le-ltb _ _ h, e)
 
-    module _ (e : trailer-fits (trailer bytes) ≡ true) where
-      pub cut-off : length bytes - 12 < trailer bytes .A → refusal 1 0 ≡ read bytes
+    module _ (e : trailer-fits (trailer (tail bytes)) ≡ true) where
+      pub cut-off : length bytes - 12 < trailer (tail bytes) .a → refusal 1 0 no-name ≡ read bytes
       unfolding read
       cut-off l = rw (le-ltb _ _ h, e, lt-ltb _ _ l)
 
-      pub goes-on : trailer bytes .A ≤ length bytes - 12 → body bytes (length bytes - 12) (trailer bytes) ≡ read bytes
-      unfolding read body
+      pub goes-on : trailer (tail bytes) .a ≤ length bytes - 12 → body bytes (length bytes - 12) (trailer (tail bytes)) ≡ read bytes
+      unfolding read
       goes-on l = rw (le-ltb _ _ h, e, le-ltb _ _ l)
 
 module _ (bytes : List ℕ) (t : ℕ) (x : Trailer) where
   abbrev pub head : List ℕ
-  head = part bytes (t - x .A) (t - x .D0)
+  head = part bytes (t - x .a) (t - x .d0)
 
-  pub bad-header : (header-fits (header head) && zeros-fit head) ≡ false → refusal 4 (t - x .A) ≡ body bytes t x
+  pub bad-header : (header-fits (header head) && zeros-fit head) ≡ false → refusal 4 (t - x .a) (wrong-column head (header head)) ≡ body bytes t x
   unfolding body
   bad-header e = rw e
 
@@ -42,7 +45,7 @@ module _ (bytes : List ℕ) (t : ℕ) (x : Trailer) where
   good-header e = rw e
 
 -- where a trailer that rule 2 passes points
-pub placed : {n t : ℕ} (x : Trailer) → t + 12 ≡ n → trailer-fits x ≡ true → x .A ≤ t → Placed n t x
+pub placed : {n t : ℕ} (x : Trailer) → t + 12 ≡ n → trailer-fits x ≡ true → x .a ≤ t → Placed n t x
 unfolding trailer-fits
 placed x e p i =
     let q = each (trailer-tests x) p in

@@ -1,5 +1,4 @@
 // Runs of samples from files and back: two bytes a sample, the low byte first. A file is named by its argument.
-use saying::opened;
 ghost use Prim.Native.Nat.{_<_, _≤_};
 
 // Whether argument i is `none`.
@@ -64,7 +63,9 @@ fn load_all(fd: i32, run: &mut [u16]) -> bool {
 
 // Fills the run from the file that argument i names.
 pub(crate) fn load(i: usize, run: &mut [u16]) -> Loaded {
-    let fd = opened(i);
+    let mut path = io::buffer();
+    let n = os::arg(i, &mut path);
+    let fd = os::open_read(&path[..n]);
     if fd < 0 {
         return Loaded::Missing;
     }

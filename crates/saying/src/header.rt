@@ -1,157 +1,99 @@
-// Which field of a refused header is outside its column (docs/RULES.md, "Header"), what was found there and what is allowed.
+// A column of the header (docs/RULES.md, "Header"): its name, what was found there and what is allowed.
 use crate::found;
-use crate::numbers::four;
-use crate::numbers::one;
-use crate::numbers::two;
+use crate::only_zero;
 use crate::say;
 use crate::say_number;
-ghost use Prim.Native.Nat.{_^_, _<_};
+use fields::numbers::four;
+use fields::numbers::one;
+use fields::numbers::two;
+use frame::kinds::BL_DEPTH;
+use frame::kinds::BRIGHTEST;
+use frame::kinds::COLUMNS;
+use frame::kinds::DARKEST;
+use frame::kinds::DENOMINATOR;
+use frame::kinds::DEPTHS;
+use frame::kinds::DISABLED;
+use frame::kinds::EL_DEPTH;
+use frame::kinds::HDR_DEPTH;
+use frame::kinds::LEVEL;
+use frame::kinds::PAIRS;
+use frame::kinds::PROFILE;
+use frame::kinds::ZERO_7;
+use frame::kinds::ZERO_14;
+use plan::limits::MOST_COLUMNS;
+use plan::limits::MOST_PAIRS;
 
-// Each of these answers whether a field fits, and where it does not, says what was found and what is allowed.
-fn either(name: &[u8], v: usize, a: usize, b: usize) -> bool {
-    if (v == a) | (v == b) {
-        return true;
-    }
+fn byte_column(name: &[u8], v: u8, allowed: &[u8]) {
     say(name);
-    found(v);
-    say_number(a);
-    say(b" or ");
-    say_number(b);
+    found(v as usize);
+    say(allowed);
+}
+
+fn zero_column(name: &[u8], v: usize) {
+    say(name);
+    only_zero(v);
+}
+
+fn from_one(name: &[u8], v: u16, most: u16) {
+    say(name);
+    found(v as usize);
+    say(b"1 to ");
+    say_number(most as usize);
     say(b"\n");
-    false
 }
 
-fn between(name: &[u8], v: usize, low: usize, high: usize) -> bool {
-    if (low <= v) & (v <= high) {
-        return true;
-    }
-    say(name);
-    found(v);
-    say_number(low);
-    say(b" to ");
-    say_number(high);
-    say(b"\n");
-    false
-}
-
-fn zero(name: &[u8], v: usize) -> bool {
-    if v == 0 {
-        return true;
-    }
-    say(name);
-    found(v);
-    say(b"0\n");
-    false
-}
-
-fn profile_fits(v: usize) -> bool {
-    if (v == 1) | ((v == 3) | (v == 4)) {
-        return true;
-    }
-    say(b"ccm_profile");
-    found(v);
-    say(b"1, 3 or 4\n");
-    false
-}
-
-fn same_depth(bl: usize, el: usize) -> bool {
-    if bl == el {
-        return true;
-    }
+fn say_depths(bl: u8, el: u8) {
     say(b"EL_bit_depth_minus8");
-    found(el);
-    say_number(bl);
+    found(el as usize);
+    say_number(bl as usize);
     say(b", as BL_bit_depth_minus8 is\n");
-    false
 }
 
-fn darkest_fits(v: usize, brightest: usize) -> bool
-    requires { ⌜ brightest < 2 ^ 16 ⌝ }
-{
-    let limit = 10000 * brightest;
-    if v < limit {
-        return true;
-    }
+fn say_denominator(d: u8, el: u8) {
+    say(b"coefficient_log2_denom");
+    found(d as usize);
+    say_number((el as usize) + 8 + 5);
+    say(b" to 32\n");
+}
+
+fn say_brightest(v: u16) {
+    say(b"max_display_mastering_luminance");
+    found(v as usize);
+    say(b"0 to 10000\n");
+}
+
+// Both luminances in units of 0.0001 cd/m2.
+fn say_darkest(v: u32, brightest: u16) {
     say(b"min_display_mastering_luminance");
-    found(v);
+    found(v as usize);
     say(b"less than ");
-    say_number(limit);
+    say_number(10000 * (brightest as usize));
     say(b"\n");
-    false
 }
 
-fn depths_fit(bl: usize, el: usize) -> bool {
-    if !either(b"BL_bit_depth_minus8", bl, 0, 2) {
-        return false;
+fn say_size(kind: u8, head: &[u8]) {
+    match kind {
+        ZERO_7 => zero_column(b"zero (byte 7)", one(head, 7) as usize),
+        COLUMNS => from_one(b"W/2", two(head, 8), MOST_COLUMNS),
+        PAIRS => from_one(b"H/2", two(head, 10), MOST_PAIRS),
+        BRIGHTEST => say_brightest(two(head, 12)),
+        ZERO_14 => zero_column(b"zero (bytes 14-15)", two(head, 14) as usize),
+        DARKEST => say_darkest(four(head, 16), two(head, 12)),
+        _ => zero_column(b"zero (bytes 20-23)", four(head, 20) as usize),
     }
-    if !either(b"EL_bit_depth_minus8", el, 0, 2) {
-        return false;
-    }
-    same_depth(bl, el)
 }
 
-// The depths come before the denominator, whose column is made of them.
-fn format_fits(head: &[u8]) -> bool {
-    let el = one(head, 4);
-    if !profile_fits(one(head, 0)) {
-        return false;
-    }
-    if !zero(b"ccm_level", one(head, 1)) {
-        return false;
-    }
-    if !depths_fit(one(head, 3), el) {
-        return false;
-    }
-    between(b"coefficient_log2_denom", one(head, 2), el + 13, 32)
-}
-
-fn flags_fit(head: &[u8]) -> bool {
-    if !either(b"hdr_bit_depth_minus8", one(head, 5), 2, 4) {
-        return false;
-    }
-    if !either(b"disable_residual_flag", one(head, 6), 0, 1) {
-        return false;
-    }
-    zero(b"zero (byte 7)", one(head, 7))
-}
-
-fn size_fits(head: &[u8]) -> bool {
-    if !between(b"W/2", two(head, 8), 1, 2048) {
-        return false;
-    }
-    between(b"H/2", two(head, 10), 1, 1152)
-}
-
-fn luminances_fit(head: &[u8]) -> bool {
-    let brightest = two(head, 12);
-    if !between(b"max_display_mastering_luminance", brightest, 0, 10000) {
-        return false;
-    }
-    if !zero(b"zero (bytes 14-15)", two(head, 14)) {
-        return false;
-    }
-    if !darkest_fits(four(head, 16), brightest) {
-        return false;
-    }
-    zero(b"zero (bytes 20-23)", four(head, 20))
-}
-
-fn header_fits(head: &[u8]) -> bool {
-    if !format_fits(head) {
-        return false;
-    }
-    if !flags_fit(head) {
-        return false;
-    }
-    if !size_fits(head) {
-        return false;
-    }
-    luminances_fit(head)
-}
-
-// Says what is wrong in the header that begins at a place of the bytes.
-pub(crate) fn say_header(bytes: &[u8], place: usize) {
-    if place < bytes.len() {
-        header_fits(&bytes[place..]);
+// The column of this kind, in the header that begins `head`.
+pub(crate) fn say_column(kind: u8, head: &[u8]) {
+    match kind {
+        PROFILE => byte_column(b"ccm_profile", one(head, 0), b"1, 3 or 4\n"),
+        LEVEL => byte_column(b"ccm_level", one(head, 1), b"0\n"),
+        BL_DEPTH => byte_column(b"BL_bit_depth_minus8", one(head, 3), b"0 or 2\n"),
+        EL_DEPTH => byte_column(b"EL_bit_depth_minus8", one(head, 4), b"0 or 2\n"),
+        DEPTHS => say_depths(one(head, 3), one(head, 4)),
+        DENOMINATOR => say_denominator(one(head, 2), one(head, 4)),
+        HDR_DEPTH => byte_column(b"hdr_bit_depth_minus8", one(head, 5), b"2 or 4\n"),
+        DISABLED => byte_column(b"disable_residual_flag", one(head, 6), b"0 or 1\n"),
+        _ => say_size(kind, head),
     }
 }

@@ -1,10 +1,9 @@
 // What the programs over a block have in common: words for people, on standard output, and files that arguments name.
-mod header; // what is wrong in a header
-mod numbers; // numbers in bytes
-mod section; // the field at a byte of a section
+mod field; // a field of a section
+mod header; // a column of the header
 mod trailer; // what was found where a block is refused, and what is allowed
 
-use numbers::wide;
+use fields::Name;
 use trailer::say_found;
 ghost use mathlib.Core.Path.{_≡_};
 ghost use Prim.Native.Nat.{_^_, _≤_};
@@ -24,6 +23,11 @@ fn found(v: usize) {
     say(b" is ");
     say_number(v);
     say(b", allowed ");
+}
+
+fn only_zero(v: usize) {
+    found(v);
+    say(b"0\n");
 }
 
 // The absolute value. -1 - z does not wrap, where 0 - z could.
@@ -52,7 +56,7 @@ pub fn say_unread(i: usize) {
 }
 
 // The file that argument i names, opened for reading; negative where it cannot be.
-pub fn opened(i: usize) -> i32 {
+fn opened(i: usize) -> i32 {
     let mut path = io::buffer();
     let n = os::arg(i, &mut path);
     os::open_read(&path[..n])
@@ -92,11 +96,11 @@ pub fn say_rule(number: u8) {
     }
 }
 
-// A block's refusal: its number, the byte where the failure was met, unless the block is cut off, what it means, and what was
-// found there.
-pub fn say_refusal(number: u8, place: usize, bytes: &[u8]) {
+// A block's refusal, as reading answers it: its number, the byte where the failure was met, unless the block is cut off, what it
+// means, and what was found there.
+pub fn say_refusal(number: u8, place: usize, field: Name, bytes: &[u8]) {
     say(b"refused ");
-    say_number(wide(number));
+    say_number(number as usize);
     if number != 1 {
         say(b" at byte ");
         say_number(place);
@@ -104,5 +108,5 @@ pub fn say_refusal(number: u8, place: usize, bytes: &[u8]) {
     say(b": ");
     say_rule(number);
     say(b"\n");
-    say_found(number, place, bytes);
+    say_found(number, place, field, bytes);
 }

@@ -1,37 +1,45 @@
-// What a refused block has at the place of its failure and what is allowed there, from its trailer on (docs/RULES.md).
-use crate::header::say_header;
-use crate::numbers::one;
-use crate::numbers::two;
+// What a refused block has where its failure was met, and what is allowed there.
+use crate::field::say_field;
+use crate::header::say_column;
 use crate::say;
 use crate::say_number;
-use crate::section::say_in_section;
-ghost use Prim.Native.Nat.{_≤_};
+use fields::Name;
+use fields::numbers::two;
 
-// The byte at a distance back from t, 0 where there is none.
-fn back(t: usize, distance: usize) -> usize
-    ensures { λ r. ⌜ r ≤ t ⌝ }
-{
+// The bytes from a place on; none past the end.
+fn rest(bytes: &[u8], place: usize) -> &[u8] {
+    if place <= bytes.len() {
+        return &bytes[place..];
+    }
+    &bytes[..0]
+}
+
+// The byte to which number i of the trailer, A, D0, D1 or D2, points back from the trailer's first byte, t. Past D2 it is t itself.
+fn back(bytes: &[u8], t: usize, i: usize) -> usize {
+    if 3 < i {
+        return t;
+    }
+    let distance = two(rest(bytes, t), 2 * i) as usize;
     if distance <= t { t - distance } else { 0 }
 }
 
 // Rule 1.
-fn say_short(bytes: &[u8]) {
+fn say_short(bytes: &[u8], t: usize) {
     if bytes.len() < 12 {
         say_number(bytes.len());
         say(b" bytes, allowed 12 or more\n");
         return;
     }
-    let t = bytes.len() - 12;
     say(b"A is ");
-    say_number(two(&bytes[t..], 0));
+    say_number(two(rest(bytes, t), 0) as usize);
     say(b", allowed at most ");
     say_number(t);
     say(b"\n");
 }
 
-fn say_one(name: &[u8], v: usize) {
+fn say_one(name: &[u8], v: u16) {
     say(name);
-    say_number(v);
+    say_number(v as usize);
 }
 
 // Rule 2.
@@ -45,95 +53,32 @@ fn say_trailer(tail: &[u8]) {
     say(b", allowed A = D0 + 24, D0 > D1 > D2 > 0, version 1, zero 0\n");
 }
 
-// A section: its number, its first byte, and the byte after its last.
-struct Part {
-    k: usize,
-    from: usize,
-    to: usize,
-}
-
-// The section in which a byte lies.
-fn part_at(tail: &[u8], t: usize, place: usize) -> Part {
-    let cb = back(t, two(tail, 4));
-    let cr = back(t, two(tail, 6));
-    if cr <= place {
-        return Part {
-            k: 2,
-            from: cr,
-            to: t,
-        };
+// Rule 3, in section k.
+fn say_end(bytes: &[u8], t: usize, k: usize) {
+    if 2 < k {
+        return;
     }
-    if cb <= place {
-        return Part {
-            k: 1,
-            from: cb,
-            to: cr,
-        };
-    }
-    Part {
-        k: 0,
-        from: back(t, two(tail, 2)),
-        to: cb,
-    }
-}
-
-// Rule 3. A field that has no byte left begins at its section's end, where the next section begins, and no section's first byte
-// is met by this rule: so the byte before tells the section.
-fn say_end(tail: &[u8], t: usize, place: usize) {
-    let part = part_at(tail, t, back(place, 1));
     say(b"section ");
-    say_number(part.k);
+    say_number(k);
     say(b" is bytes ");
-    say_number(part.from);
+    say_number(back(bytes, t, k + 1));
     say(b" up to ");
-    say_number(part.to);
+    say_number(back(bytes, t, k + 2));
     say(b"\n");
 }
 
-// Rules 5 and 6: the limits are made of the header's numbers, which rule 4 has passed.
-fn say_field(s: &[u8], k: usize, o: usize, head: &[u8]) {
-    if s.len() <= o {
-        return;
-    }
-    if 4096 <= o {
-        return;
-    }
-    let d = one(head, 2);
-    if 32 < d {
-        return;
-    }
-    let samples: usize = if one(head, 3) == 0 { 256 } else { 1024 };
-    say_in_section(s, k, o, samples, 1usize << (d as u32));
-}
-
-fn say_part(bytes: &[u8], t: usize, part: Part, place: usize, tail: &[u8]) {
-    let first = part.from;
-    let header = back(t, two(tail, 0));
-    if bytes.len() < first {
-        return;
-    }
-    if place < first {
-        return;
-    }
-    if bytes.len() < header {
-        return;
-    }
-    say_field(&bytes[first..], part.k, place - first, &bytes[header..]);
-}
-
 // What was found and what is allowed, on a line of its own.
-pub(crate) fn say_found(number: u8, place: usize, bytes: &[u8]) {
-    if bytes.len() < 12 {
-        say_short(bytes);
-        return;
-    }
-    let t = bytes.len() - 12;
-    let tail = &bytes[t..];
+pub(crate) fn say_found(number: u8, place: usize, field: Name, bytes: &[u8]) {
+    let t = if bytes.len() < 12 {
+        0
+    } else {
+        bytes.len() - 12
+    };
     match number {
-        1 => say_short(bytes),
-        2 => say_trailer(tail),
-        3 => say_end(tail, t, place),
-        4 => say_header(bytes, place),
-        _ => say_part(bytes, t, part_at(tail, t, place), place, tail),
+        1 => say_short(bytes, t),
+        2 => say_trailer(rest(bytes, t)),
+        3 => say_end(bytes, t, field.first),
+        4 => say_column(field.kind, rest(bytes, place)),
+        _ => say_field(field, rest(bytes, place), rest(bytes, back(bytes, t, 0))),
     }
 }

@@ -3,13 +3,10 @@ use borrow.Author.Needs.{needs}
 use Rattle.block.proofs.refused.Statement.{statement}
 use Rattle.block.proofs.refused.Tie as tie
 
-empty-requires : tie.Need-empty-requires
-empty-requires c κs = search needs
-
 returns : tie.Need-returns
 returns c =
     let e : tie.After-empty = search needs in
     rw (e .empty .ensures .0)
 
 pub refused-spec : {M : Type 1} → statement M
-refused-spec = tie.close (tie.spec empty-requires returns)
+refused-spec = tie.close (tie.spec (λ c κs. search needs) returns)

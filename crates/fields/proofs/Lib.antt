@@ -1,0 +1,5 @@
+pub mod Digits
+pub mod Stepping
+pub mod Following
+pub mod Filling
+pub mod Giving

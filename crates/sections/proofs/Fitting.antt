@@ -1,0 +1,105 @@
+-- The one walk of a section's grammar: whatever it reads passes rule 7, and what it refuses has a number. Assumes nothing.
+use mathlib.Core.Path.{_≡_, refl}
+use mathlib.Core.Bool.{Bool, true, false, cond}
+use mathlib.Core.List.{List, []}
+use Prim.Native.Nat.{ℕ, _+_, _≤_}
+use native.Mathlib.Omega.{arith}
+use lib.Dec.{leb, eqb}
+use lib.IntN.{pos}
+use lib.ListN.{length}
+use Rattle.plan.specs.declared.Header.{Header}
+use Rattle.plan.specs.declared.Component.{Component}
+use Rattle.plan.specs.Ranges.{header-fits, count-fits, pivot-fits, order-fits, offset-fits, fraction-fits, coefficient-fits, unsigned-fits}
+use Rattle.plan.specs.Rule7.{every, pivot-places, piece-places, row-places, pivots-used, pieces-used, coefficients-used, no-piece, zero-piece, is-zero, row-fits, piece-fits, piece-empty, pivots-fit, pieces-fit, nlq-fits, component-fits}
+use Rattle.fields.specs.declared.Width.{Width}
+use Rattle.fields.specs.declared.Width.the-variants.{One, Two, Four}
+use Rattle.fields.specs.Fields.{Read, refused, got, no-name, repeated}
+use Rattle.fields.proofs.Giving.{Each, Gives, then-gives, field-gives, repeated-gives, ended-gives}
+use Rattle.section_fields.specs.Fields.{asked, ranged, integer-fits, refused-idc}
+use Rattle.sections.specs.Sections.{coefficient, unsigned, idc, piece, pivot, nlq, counted, section, under, found}
+use Rattle.sections.proofs.Places.{and, places}
+use Rattle.sections.proofs.Ranged.{unsigned-in, coefficient-in}
+
+-- a field that has a range
+in-range : (kind k i j : ℕ) (w : Width) (fits : ℕ → Bool) (bytes : List ℕ) → Gives (λ v. fits v ≡ true) (ranged (asked kind k i j w) fits bytes)
+in-range kind k i j w fits bytes = field-gives (asked kind k i j w) fits (λ v. 5) (λ z. omega arith) (λ v z. omega arith) bytes
+
+some-rule : (k v : ℕ) → refused-idc k v ≡ 0 → ⊥
+some-rule k v = go (eqb v 1) (eqb k 0)
+  where
+    go : (t u : Bool) → _≡_ {A = ℕ} (cond t (cond u 5 6) 5) 0 → ⊥
+    go true true e = omega arith
+    go true false e = omega arith
+    go false u e = omega arith
+
+module _ (h : Header) (k : ℕ) where
+  coefficient-gives : (p i : ℕ) (bytes : List ℕ) → Gives (λ z. coefficient-fits h z ≡ true) (coefficient h k p i bytes)
+  unfolding coefficient
+  coefficient-gives p i bytes =
+      then-gives (λ v. integer-fits v ≡ true) _ (ranged (asked 5 k p i One) integer-fits bytes) _ (in-range 5 k p i One integer-fits bytes)
+      (λ n a rest. then-gives (λ v. fraction-fits h v ≡ true) _ (ranged (asked 6 k p i Four) (fraction-fits h) rest) _ (in-range 6 k p i Four (fraction-fits h) rest)
+      (λ f b rest. coefficient-in h n f a b))
+
+  unsigned-gives : (kind : ℕ) (bytes : List ℕ) → Gives (λ v. unsigned-fits h v ≡ true) (unsigned h k kind bytes)
+  unfolding unsigned
+  unsigned-gives kind bytes =
+      then-gives (λ v. leb v 1 ≡ true) _ (ranged (asked kind k 0 0 One) (λ v. leb v 1) bytes) _ (in-range kind k 0 0 One (λ v. leb v 1) bytes)
+      (λ n a rest. then-gives (λ v. fraction-fits h v ≡ true) _ (ranged (asked (kind + 1) k 0 0 Four) (fraction-fits h) rest) _ (in-range (kind + 1) k 0 0 Four (fraction-fits h) rest)
+      (λ f b rest. unsigned-in h n f a b))
+
+  piece-gives : (p : ℕ) (bytes : List ℕ) → Gives (λ q. piece-fits h q ≡ true) (piece h k p bytes)
+  unfolding piece piece-fits row-fits
+  piece-gives p bytes =
+      then-gives (λ v. eqb v 0 ≡ true) _ (idc k p bytes) _ (field-gives (asked 3 k p 0 One) (λ v. eqb v 0) (refused-idc k) (λ z. omega arith) (some-rule k) bytes)
+      (λ m a rest. then-gives (λ v. order-fits v ≡ true) _ (ranged (asked 4 k p 0 One) order-fits rest) _ (in-range 4 k p 0 One order-fits rest)
+      (λ o b rest. let used = coefficients-used (record { idc = m; order = o; row = [] }) in
+      then-gives (λ l. (length l ≡ used) × Each (λ z. coefficient-fits h z ≡ true) l) _ (repeated 0 used (coefficient h k p) rest) _ (repeated-gives _ 0 used (coefficient h k p) (coefficient-gives p) rest)
+      (λ row t rest. and a (and b (places (coefficient-fits h) is-zero (pos 0) (pos 0) refl row-places used row (t .0) (t .1))))))
+
+  nlq-gives : (bytes : List ℕ) → Gives (λ q. nlq-fits h q ≡ true) (nlq h k bytes)
+  unfolding nlq nlq-fits
+  nlq-gives bytes =
+      then-gives (λ v. offset-fits h v ≡ true) _ (ranged (asked 7 k 0 0 Two) (offset-fits h) bytes) _ (in-range 7 k 0 0 Two (offset-fits h) bytes)
+      (λ o a rest. then-gives (λ v. unsigned-fits h v ≡ true) _ (unsigned h k 8 rest) _ (unsigned-gives 8 rest)
+      (λ m b rest. then-gives (λ v. unsigned-fits h v ≡ true) _ (unsigned h k 10 rest) _ (unsigned-gives 10 rest)
+      (λ s d rest. then-gives (λ v. unsigned-fits h v ≡ true) _ (unsigned h k 12 rest) _ (unsigned-gives 12 rest)
+      (λ t e rest. and a (and b (and d (and e refl)))))))
+
+  empty-piece : piece-empty h zero-piece ≡ true
+  unfolding piece-empty row-fits every
+  empty-piece = refl
+
+  section-gives : (bytes : List ℕ) → Gives (λ c. component-fits h c ≡ true) (section h k bytes)
+  unfolding section component-fits pivots-fit pieces-fit
+  section-gives bytes =
+      then-gives (λ v. count-fits v ≡ true) _ (ranged (asked 1 k 0 0 One) count-fits bytes) _ (in-range 1 k 0 0 One count-fits bytes)
+      (λ n a rest. let several = pivots-used (counted n) in
+      then-gives (λ l. (length l ≡ several) × Each (λ v. pivot-fits h v ≡ true) l) _ (repeated 0 several (pivot h k) rest) _ (repeated-gives _ 0 several (pivot h k) (λ i. in-range 2 k i 0 Two (pivot-fits h)) rest)
+      (λ l b rest. let used = pieces-used (counted n) in
+      then-gives (λ l. (length l ≡ used) × Each (λ q. piece-fits h q ≡ true) l) _ (repeated 0 used (piece h k) rest) _ (repeated-gives _ 0 used (piece h k) piece-gives rest)
+      (λ m d rest. then-gives (λ q. nlq-fits h q ≡ true) _ (nlq h k rest) _ (nlq-gives rest)
+      (λ q e rest. ended-gives (λ c. component-fits h c ≡ true) _ 3 _ (λ z. omega arith)
+      (and a (and (places (pivot-fits h) (λ v. eqb v 0) 0 0 refl pivot-places several l (b .0) (b .1))
+      (and (places (piece-fits h) (piece-empty h) zero-piece no-piece empty-piece piece-places used m (d .0) (d .1)) e))) rest))))
+
+  under-gives : (bytes : List ℕ) → Gives (λ c. component-fits h c ≡ true) (under h k bytes)
+  under-gives bytes = go (header-fits h)
+    where
+      go : (t : Bool) → Gives (λ c. component-fits h c ≡ true) (cond t (section h k bytes) (refused 4 no-name bytes))
+      go true = section-gives bytes
+      go false = λ z. omega arith
+
+  -- a section that is accepted passes rule 7
+  pub accepted : (s : List ℕ) → found s (under h k s) .number ≡ 0 → component-fits h (found s (under h k s) .component) ≡ true
+  unfolding found
+  accepted s e = go (under h k s) (under-gives s) e
+    where
+      go : (r : Read Component) → Gives (λ c. component-fits h c ≡ true) r → found s r .number ≡ 0 → component-fits h (found s r .component) ≡ true
+      go (refused n name rest) g e = absurd (g e)
+      go (got c rest) g e = g
+
+-- where a section failed, in its bytes
+pub place-le : (s : List ℕ) (r : Read Component) → found s r .place ≤ length s
+unfolding found
+place-le s (refused k name rest) = omega arith
+place-le s (got c rest) = omega arith

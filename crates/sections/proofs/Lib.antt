@@ -1,0 +1,4 @@
+pub mod Making
+pub mod Places
+pub mod Ranged
+pub mod Fitting

@@ -1,0 +1,76 @@
+-- Numbers, pieces and sections are made of their parts, read one after the other. Assumes nothing.
+use mathlib.Core.Path.{_≡_, ap, _∙_}
+use mathlib.Core.Bool.{Bool, true, false, cond}
+use mathlib.Core.List.{List, []}
+use Prim.Native.Nat.{ℕ, _+_, _-_, _*_, _^_, _≤_, _<_}
+use native.Mathlib.Omega.{arith}
+use lib.Dec.{leb, ltb}
+use lib.ListN.{length, drop, length-drop}
+use lib.IntN.{ℤ, pos, natAbs, _+ℤ_, _-ℤ_, _*ℤ_}
+use Rattle.plan.specs.declared.Header.{Header}
+use Rattle.plan.specs.declared.Piece.{Piece}
+use Rattle.plan.specs.declared.Nlq.{Nlq}
+use Rattle.plan.specs.declared.Component.{Component}
+use Rattle.plan.specs.Ranges.{header-fits, count-fits, order-fits, fraction-fits}
+use Rattle.plan.specs.Rule7.{pivot-places, piece-places, row-places, pivots-used, pieces-used, coefficients-used, zero-piece}
+use Rattle.fields.specs.declared.Width.the-variants.{One, Four}
+use Rattle.fields.specs.declared.Ask.{Ask}
+use Rattle.fields.specs.declared.Cursor.{Cursor}
+use Rattle.fields.specs.Fields.{got, _then_, no-name, repeated, padded, ended}
+use Rattle.fields.specs.Cursors.{start, from, Reads, filled}
+use Rattle.fields.proofs.Following.{joined, done}
+use Rattle.fields.proofs.Filling.{listed}
+use Rattle.section_fields.specs.Fields.{asked, ranged, signed, integer-fits}
+use Rattle.sections.specs.Sections.{coefficient, unsigned, idc, piece, pivot, nlq, counted, section, under, failed, found}
+
+module _ {s : List ℕ} (h : Header) (k : ℕ) {c c1 c2 : Cursor} where
+  pub made-coefficient : (p i one n f : ℕ) {y : Ask} {z a : ℤ} → z ≡ a *ℤ pos one +ℤ pos f → a ≡ signed n → one ≡ 2 ^ h .d → y ≡ asked 6 k p i Four
+      → Reads s c (ranged (asked 5 k p i One) integer-fits) n c1 → Reads s c1 (ranged y (fraction-fits h)) f c2 → Reads s c (coefficient h k p i) z c2
+  unfolding coefficient
+  made-coefficient p i one n f e q d y r t = rw (e, q, d) (joined _ r (joined _ (rw y at t) done))
+
+  pub made-unsigned : (kind one n f : ℕ) {x y : Ask} → one ≡ 2 ^ h .d → x ≡ asked kind k 0 0 One → y ≡ asked (kind + 1) k 0 0 Four
+      → Reads s c (ranged x (λ v. leb v 1)) n c1 → Reads s c1 (ranged y (fraction-fits h)) f c2 → Reads s c (unsigned h k kind) (n * one + f) c2
+  unfolding unsigned
+  made-unsigned kind one n f d x y r t = rw d (joined _ (rw x at r) (joined _ (rw y at t) done))
+
+  pub made-piece : (p m o : ℕ) {x : Ask} {row : List ℤ} {c3 : Cursor} → x ≡ asked 4 k p 0 One → Reads s c (idc k p) m c1 → Reads s c1 (ranged x order-fits) o c2
+      → Reads s c2 (filled row-places (pos 0) (coefficients-used (record { idc = m; order = o; row = [] })) (coefficient h k p)) row c3
+      → Reads s c (piece h k p) (record { idc = m; order = o; row = row }) c3
+  unfolding piece
+  made-piece p m o x a b r =
+      joined _ a
+      (joined _ (rw x at b)
+      (listed row-places (pos 0) (coefficients-used (record { idc = m; order = o; row = [] })) (coefficient h k p) (λ row rest. got (record { idc = m; order = o; row = row }) rest) r done))
+
+  pub made-section : (n : ℕ) {x y : Ask} {preds : List ℕ} {pieces : List Piece} {residual : Nlq} {c3 c4 c5 : Cursor} → x ≡ asked 1 k 0 0 One → y ≡ asked 14 k 0 0 One
+      → Reads s c (ranged x count-fits) n c1 → Reads s c1 (filled pivot-places 0 (pivots-used (counted n)) (pivot h k)) preds c2
+      → Reads s c2 (filled piece-places zero-piece (pieces-used (counted n)) (piece h k)) pieces c3 → Reads s c3 (nlq h k) residual c4
+      → ((a : Component) → Reads s c4 (ended (y .name) 3 a) a c5) → Reads s c (section h k) (record { n = n; preds = preds; pieces = pieces; nlq = residual }) c5
+  unfolding section
+  made-section n {preds = preds} {pieces} {residual} x y a b d e f =
+      joined _ (rw x at a)
+      (listed pivot-places 0 (pivots-used (counted n)) (pivot h k) (λ l rest. repeated 0 (pieces-used (counted n)) (piece h k) rest then λ p rest. nlq h k rest then λ q rest. ended (asked 14 k 0 0 One .name) 3 (record { n = n; preds = l; pieces = padded piece-places zero-piece p; nlq = q }) rest) b
+      (listed piece-places zero-piece (pieces-used (counted n)) (piece h k) (λ p rest. nlq h k rest then λ q rest. ended (asked 14 k 0 0 One .name) 3 (record { n = n; preds = preds; pieces = p; nlq = q }) rest) d
+      (joined _ e (rw y at (f (record { n = n; preds = preds; pieces = pieces; nlq = residual }))))))
+
+pub unfit-found : (s : List ℕ) (h : Header) (k : ℕ) → header-fits h ≡ false → failed 4 0 no-name ≡ found s (under h k s)
+unfolding found
+unfit-found s h k e =
+    let l : length s - length s ≡ 0 = omega arith in
+    rw (e, l)
+
+module _ (s : List ℕ) (h : Header) (k : ℕ) {c : Component} {end : Cursor} (fit : header-fits h ≡ true) (r : Reads s start (section h k) c end) where
+  read-is : found s (from s end (got c)) ≡ found s (under h k s)
+  unfolding from
+  read-is = ap (found s) (r .is ∙ rw fit)
+
+  pub stopped-found : end .stopped ≡ true → failed (end .number) (end .at) (end .name) ≡ found s (under h k s)
+  unfolding from found
+  stopped-found e =
+      let l : length s - length (drop (end .at) s) ≡ end .at = rw (length-drop (end .at) s) (omega (arith, r .inside (omega arith))) in
+      rw (e, l) at read-is
+
+  pub ended-found : end .stopped ≡ false → record { number = 0; place = 0; field = no-name; component = c } ≡ found s (under h k s)
+  unfolding from found
+  ended-found e = rw e at read-is

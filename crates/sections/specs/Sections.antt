@@ -1,0 +1,83 @@
+-- A section of the composing block (the house rules): pivots, pieces and the residual's numbers of one component.
+use mathlib.Core.Bool.{cond}
+use mathlib.Core.List.{List, []}
+use Prim.Native.Nat.{ℕ, _+_, _-_, _*_, _^_}
+use lib.Dec.{leb, ltb, eqb}
+use lib.IntN.{ℤ, pos, _-ℤ_}
+use lib.ListN.{length}
+use Rattle.standard.specs.Parameters.{fp}
+use Rattle.plan.specs.declared.Header.{Header}
+use Rattle.plan.specs.declared.Piece.{Piece}
+use Rattle.plan.specs.declared.Nlq.{Nlq}
+use Rattle.plan.specs.declared.Component.{Component}
+use Rattle.plan.specs.Ranges.{header-fits, count-fits, pivot-fits, order-fits, offset-fits, fraction-fits}
+use Rattle.plan.specs.Rule7.{pivot-places, piece-places, row-places, pivots-used, pieces-used, coefficients-used, zero-piece, no-component}
+use Rattle.fields.specs.declared.Name.{Name}
+use Rattle.fields.specs.declared.Width.the-variants.{One, Two, Four}
+use Rattle.fields.specs.Fields.{Read, refused, got, _then_, no-name, field, repeated, padded, ended}
+use Rattle.section_fields.specs.Fields.{asked, ranged, signed, integer-fits, refused-idc}
+use Rattle.sections.specs.declared.Found.{Found}
+
+-- coefficient i of piece p: a signed byte -64 to 63, and a fraction of 4 bytes
+unfoldable pub coefficient : Header → ℕ → ℕ → ℕ → List ℕ → Read ℤ
+coefficient h k p i bytes =
+    ranged (asked 5 k p i One) integer-fits bytes then λ n rest.
+    ranged (asked 6 k p i Four) (fraction-fits h) rest then λ f rest.
+    got (fp (h .d) (signed n) f) rest
+
+-- hdr_in_max, slope, threshold: an integer byte 0 or 1, and a fraction of 4 bytes
+unfoldable pub unsigned : Header → ℕ → ℕ → List ℕ → Read ℕ
+unsigned h k kind bytes =
+    ranged (asked kind k 0 0 One) (λ n. leb n 1) bytes then λ n rest.
+    ranged (asked (kind + 1) k 0 0 Four) (fraction-fits h) rest then λ f rest.
+    got (n * 2 ^ h .d + f) rest
+
+-- mapping_idc of piece p
+abbrev pub idc : ℕ → ℕ → List ℕ → Read ℕ
+idc k p = field (asked 3 k p 0 One) (λ v. eqb v 0) (refused-idc k)
+
+-- piece p: mapping_idc, poly_order_minus1, and its coefficients; the places beyond are 0
+unfoldable pub piece : Header → ℕ → ℕ → List ℕ → Read Piece
+piece h k p bytes =
+    idc k p bytes then λ m rest.
+    ranged (asked 4 k p 0 One) order-fits rest then λ o rest.
+    repeated 0 (coefficients-used (record { idc = m; order = o; row = [] })) (coefficient h k p) rest then λ row rest.
+    got (record { idc = m; order = o; row = padded row-places (pos 0) row }) rest
+
+-- pred_pivot_value i
+abbrev pub pivot : Header → ℕ → ℕ → List ℕ → Read ℕ
+pivot h k i = ranged (asked 2 k i 0 Two) (pivot-fits h)
+
+-- nlq_offset, hdr_in_max, slope, threshold
+unfoldable pub nlq : Header → ℕ → List ℕ → Read Nlq
+nlq h k bytes =
+    ranged (asked 7 k 0 0 Two) (offset-fits h) bytes then λ o rest.
+    unsigned h k 8 rest then λ m rest.
+    unsigned h k 10 rest then λ s rest.
+    unsigned h k 12 rest then λ t rest.
+    got (record { offset = o; maximum = m; slope = s; threshold = t }) rest
+
+-- a component of which num_pivots_minus2 is known: it says how many pivots and pieces follow
+abbrev pub counted : ℕ → Component
+counted n = record { n = n; preds = []; pieces = []; nlq = no-component .nlq }
+
+-- section k: num_pivots_minus2, the pivots, the pieces, the residual's numbers; bytes left over are refused 3
+unfoldable pub section : Header → ℕ → List ℕ → Read Component
+section h k bytes =
+    ranged (asked 1 k 0 0 One) count-fits bytes then λ n rest.
+    repeated 0 (pivots-used (counted n)) (pivot h k) rest then λ pivots rest.
+    repeated 0 (pieces-used (counted n)) (piece h k) rest then λ pieces rest.
+    nlq h k rest then λ q rest.
+    ended (asked 14 k 0 0 One .name) 3 (record { n = n; preds = padded pivot-places 0 pivots; pieces = padded piece-places zero-piece pieces; nlq = q }) rest
+
+-- a section's ranges are made of the header's numbers: under one that does not fit it is refused 4
+abbrev pub under : Header → ℕ → List ℕ → Read Component
+under h k bytes = cond (header-fits h) (section h k bytes) (refused 4 no-name bytes)
+
+-- what a section comes to: its component, or where it failed and a component of zeros
+abbrev pub failed : ℕ → ℕ → Name → Found
+failed k place name = record { number = k; place = place; field = name; component = no-component }
+
+unfoldable pub found : List ℕ → Read Component → Found
+found s (refused k name rest) = failed k (length s - length rest) name
+found s (got c rest) = record { number = 0; place = 0; field = no-name; component = c }

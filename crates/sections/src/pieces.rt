@@ -1,0 +1,97 @@
+// The pieces of a section: mapping_idc, poly_order_minus1, and the coefficients.
+use crate::fraction::coefficient;
+use fields::Cursor;
+use fields::Width;
+use fields::at_most;
+use plan::Header;
+use plan::Piece;
+use plan::limits::PIECES;
+use plan::limits::ROW;
+use section_fields::asked;
+use section_fields::idc;
+use section_fields::kinds::POLY_ORDER_MINUS1;
+ghost use Prim.Native.Nat.{_≤_};
+ghost use lib.IntN.{pos};
+ghost use Rattle.plan.specs.inner.Facts.{HeaderFacts};
+ghost use Rattle.plan.specs.Rule7.{row-places, piece-places, zero-piece};
+ghost use Rattle.fields.specs.Cursors.{Reads, filled};
+ghost use Rattle.sections.specs.Sections.{coefficient, piece};
+
+pub(crate) struct RowRead {
+    pub(crate) list: [i64; ROW],
+    pub(crate) next: Cursor,
+}
+
+pub(crate) struct PieceRead {
+    pub(crate) piece: Piece,
+    pub(crate) next: Cursor,
+}
+
+pub(crate) struct PiecesRead {
+    pub(crate) list: [Piece; PIECES],
+    pub(crate) next: Cursor,
+}
+
+fn row(s: &[u8], c: Cursor, h: Header, k: usize, p: usize, count: usize) -> RowRead
+    requires { ⌜ HeaderFacts h × (count ≤ row-places) ⌝ }
+    ensures { λ r. ⌜ Reads (now (s .entry)) c (filled row-places (pos 0) count (coefficient h k p)) (r .list) (r .next) ⌝ }
+{
+    let mut list = [0i64; ROW];
+    let mut next = c;
+    let mut i: usize = 0;
+    while i < count {
+        let f = coefficient(s, next, h, k, p, i);
+        let x = f.value;
+        list[i] = x;
+        next = f.next;
+        i += 1;
+    }
+    RowRead {
+        list: list,
+        next: next,
+    }
+}
+
+fn piece(s: &[u8], c: Cursor, h: Header, k: usize, p: usize) -> PieceRead
+    requires { ⌜ HeaderFacts h ⌝ }
+    ensures { λ r. ⌜ Reads (now (s .entry)) c (piece h k p) (r .piece) (r .next) ⌝ }
+{
+    let m = idc(s, c, k, p);
+    let c1 = m.next;
+    let o = at_most(s, c1, asked(POLY_ORDER_MINUS1, k, p, 0, Width::One), 1, 5);
+    let c2 = o.next;
+    let r = row(s, c2, h, k, p, (o.value as usize) + 2);
+    let list = r.list;
+    let c3 = r.next;
+    let q = Piece {
+        idc: m.value as u8,
+        order: o.value as u8,
+        row: list,
+    };
+    PieceRead { piece: q, next: c3 }
+}
+
+pub(crate) fn pieces(s: &[u8], c: Cursor, h: Header, k: usize, count: usize) -> PiecesRead
+    requires { ⌜ HeaderFacts h × (count ≤ piece-places) ⌝ }
+    ensures { λ r. ⌜ Reads (now (s .entry)) c (filled piece-places zero-piece count (piece h k)) (r .list) (r .next) ⌝ }
+{
+    let none = Piece {
+        idc: 0,
+        order: 0,
+        row: [0i64; ROW],
+    };
+    let mut list = [none; PIECES];
+    let mut next = c;
+    let mut p: usize = 0;
+    while p < count {
+        let r = piece(s, next, h, k, p);
+        let q = r.piece;
+        list[p] = q;
+        next = r.next;
+        p += 1;
+    }
+    PiecesRead {
+        list: list,
+        next: next,
+    }
+}
