@@ -1,4 +1,3 @@
 pub mod Cascade
 pub mod Answers
 pub mod Suffix
-pub mod Determined

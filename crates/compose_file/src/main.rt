@@ -14,6 +14,7 @@ use files::store;
 use night::compose_night;
 use plan::Header;
 use plan::Plan;
+use plan::limits::MOST_PAIRS;
 use saying::load_bytes;
 use saying::say;
 use saying::say_argument;
@@ -119,6 +120,11 @@ fn compose_and_store(
     say(b"\n");
 }
 
+// Said where an array below is too small for a picture that was taken.
+fn no_room() {
+    say(b"nothing is written: this program has no room for the picture\n");
+}
+
 // Composes and stores a picture of so many samples and row pairs.
 fn compose_picture(
     plan: Plan,
@@ -130,15 +136,19 @@ fn compose_picture(
     marks: &mut [u8],
 ) {
     if base.len() < size {
+        no_room();
         return;
     }
     if enhancement.len() < size {
+        no_room();
         return;
     }
     if output.len() < size {
+        no_room();
         return;
     }
     if marks.len() < pairs {
+        no_room();
         return;
     }
     compose_and_store(
@@ -150,20 +160,23 @@ fn compose_picture(
     );
 }
 
-// The largest picture that this program takes has 460,800 samples (3WH/2), as 640 x 480 has: there is no heap, and the runs
-// lie on the stack.
+// The largest picture that this program takes, as 640 x 480 has: there is no heap, and the runs lie on the stack.
+const MOST_SAMPLES: usize = 460800;
+
 fn compose_plan(plan: Plan) {
     let h = plan.header;
     let size = picture_size(h);
-    if 460800 < size {
+    if MOST_SAMPLES < size {
         say_size(h);
-        say(b" is larger than this program takes: 460,800 samples (3WH/2), as 640 x 480 has\n");
+        say(b" is larger than this program takes: ");
+        say_number(MOST_SAMPLES);
+        say(b" samples (3WH/2), as 640 x 480 has\n");
         return;
     }
-    let mut base = [0u16; 460800];
-    let mut enhancement = [0u16; 460800];
-    let mut output = [0u16; 460800];
-    let mut marks = [0u8; 1152];
+    let mut base = [0u16; MOST_SAMPLES];
+    let mut enhancement = [0u16; MOST_SAMPLES];
+    let mut output = [0u16; MOST_SAMPLES];
+    let mut marks = [0u8; MOST_PAIRS as usize];
     compose_picture(
         plan,
         size,

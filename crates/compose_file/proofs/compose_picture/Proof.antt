@@ -63,9 +63,13 @@ pub compose-picture-spec : {M : Type 1} → statement M
 compose-picture-spec =
     tie.close
     (tie.spec
+    (λ c κs. search needs)
     returns
+    (λ c κs. search needs)
     returns-2
+    (λ c κs. search needs)
     returns-3
+    (λ c κs. search needs)
     returns-4
     slice-relend-prefix-compose-and-store
     slice-aggregate-compose-and-store
