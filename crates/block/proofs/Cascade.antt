@@ -11,7 +11,7 @@ use Rattle.fields.specs.Fields.{no-name}
 use Rattle.frame.specs.declared.Trailer.{Trailer}
 use Rattle.frame.specs.Frame.{trailer, trailer-fits, trailer-tests, header, zeros-fit, wrong-column}
 use Rattle.block.specs.Reading.{tail, part, refusal, sections, body, read}
-use Rattle.block.specs.Facts.{Placed}
+use Rattle.block.specs.inner.Placed.{Placed}
 
 module _ (bytes : List ℕ) where
   pub too-short : length bytes < 12 → refusal 1 0 no-name ≡ read bytes

@@ -18,7 +18,8 @@ use Rattle.block.specs.declared.Reading.{Reading}
 use Rattle.frame.specs.declared.Trailer.{Trailer}
 use Rattle.frame.specs.Frame.{trailer, trailer-fits, header, zeros-fit, wrong-column}
 use Rattle.block.specs.Reading.{tail, part, refusal, section-at, met, sections, body, read}
-use Rattle.block.specs.Facts.{Placed, moved}
+use Rattle.block.specs.Facts.{moved}
+use Rattle.block.specs.inner.Placed.{Placed}
 use Rattle.block.proofs.Cascade.{bad-trailer, goes-on, placed}
 
 module _ (p s : List ℕ) where

@@ -15,7 +15,8 @@ ghost use mathlib.Core.Path.{_≡_};
 ghost use Prim.Native.Nat.{_+_, _≤_};
 ghost use lib.ListN.{length};
 ghost use Rattle.block.specs.Reading.{refusal, section-at, sections, body, read};
-ghost use Rattle.block.specs.Facts.{Placed, Sound, LastBytes};
+ghost use Rattle.block.specs.Facts.{Sound, LastBytes};
+ghost use Rattle.block.specs.inner.Placed.{Placed};
 
 // What reading comes to: 0 and the plan, or the refusal's number, the byte and the field where the failure was met, and a plan
 // of zeros. Rules 1 and 2 name no field.

@@ -16,6 +16,7 @@ use Rattle.jobs.specs.declared.Answer.{Answer}
 use Rattle.jobs.specs.declared.Answer.the-variants as answered
 use Rattle.jobs.specs.Jobs as jobs
 use Rattle.calls.specs.Settled.{Settled}
+use Rattle.calls.specs.inner.Leaves.{LeavesSettled}
 
 same-number : {o p : Outcome} → o ≡ p → o .number ≡ p .number
 same-number e = ap (λ (x : Outcome). x .number) e
@@ -53,20 +54,7 @@ settled =
       empty = λ κs a r r' s s' p q. p .0 ∙ sym (q .0);
       read = λ κs a r r' s s' p q. p .0 ∙ sym (q .0);
       picture-size = λ κs a r r' s s' p q. p ∙ sym q;
-      planes-of = λ κs a r r' s s' p q. p ∙ sym q;
-      extent-of = λ κs a r r' s s' p q. p ∙ sym q;
-      is-used = λ κs a r r' s s' p q. p ∙ sym q;
       refusal-of = λ κs a r r' s s' p q. p ∙ sym q;
-      largest = λ κs a r r' s s' p q. p ∙ sym q;
-      looked-up-output = λ κs a r r' s s' p q. p ∙ sym (q);
-      added-up-output = λ κs a r r' s s' p q. p ∙ sym (q);
-      looked-up-rows = λ κs a r r' s s' p q. p ∙ sym q;
-      added-up-rows = λ κs a r r' s s' p q. p ∙ sym q;
-      lies = λ κs a r r' s s' p q. p ∙ sym q;
-      mapped-table = λ κs a r r' s s' p q. p ∙ sym q;
-      residual-table = λ κs a r r' s s' p q. p ∙ sym q;
-      finished-table = λ κs a r r' s s' p q. p ∙ sym q;
-      cut-table = λ κs a r r' s s' p q. p ∙ sym q;
       run-length = λ κs a r r' s s' p q. p ∙ sym q;
       composed-number = λ κs a r r' s s' p q. p ∙ sym q;
       compose-row-pairs = λ κs a r r' s s' p q. one-composed r r' (p .0 ∙ sym (q .0));
@@ -82,4 +70,22 @@ settled =
       speed-job = λ κs a r r' s s' p q. p .0 ∙ sym (q .0);
       speed-output = λ κs a r r' s s' p q. p .1 .0 ∙ sym (q .1 .0);
       speed-marks = λ κs a r r' s s' p q. p .1 .1 ∙ sym (q .1 .1);
+    }
+
+pub leaves-settled : LeavesSettled
+leaves-settled =
+    record {
+      planes-of = λ κs a r r' s s' p q. p ∙ sym q;
+      extent-of = λ κs a r r' s s' p q. p ∙ sym q;
+      is-used = λ κs a r r' s s' p q. p ∙ sym q;
+      largest = λ κs a r r' s s' p q. p ∙ sym q;
+      looked-up-output = λ κs a r r' s s' p q. p ∙ sym (q);
+      added-up-output = λ κs a r r' s s' p q. p ∙ sym (q);
+      looked-up-rows = λ κs a r r' s s' p q. p ∙ sym q;
+      added-up-rows = λ κs a r r' s s' p q. p ∙ sym q;
+      lies = λ κs a r r' s s' p q. p ∙ sym q;
+      mapped-table = λ κs a r r' s s' p q. p ∙ sym q;
+      residual-table = λ κs a r r' s s' p q. p ∙ sym q;
+      finished-table = λ κs a r r' s s' p q. p ∙ sym q;
+      cut-table = λ κs a r r' s s' p q. p ∙ sym q;
     }

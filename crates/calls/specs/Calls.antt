@@ -18,12 +18,29 @@ use Rattle.jobs.proofs.compose_job as composing
 use Rattle.jobs.proofs.compose_job.Kinds as composing-kinds
 use Rattle.jobs.proofs.compose_job.Reads as composing-reads
 
--- open_picture(plan, ticket, marks)
+-- what a call leaves, and the runs in it: open_picture(plan, ticket, marks),
+-- compose_job(plan, open_ticket, ticket, first, count, base, enhancement, output, marks)
+abbrev pub OpenLeft : Lfts 1 → Type 0
+OpenLeft κs = AtExit (endedOf 1 opening-kinds.ps opening-kinds.r) κs
+
+abbrev pub marks-in-opening : (κs : Lfts 1) → OpenLeft κs → List ℕ
+marks-in-opening κs s = now (s .1 .1 .0)
+
+abbrev pub JobLeft : Lfts 4 → Type 0
+JobLeft κs = AtExit (endedOf 4 composing-kinds.ps composing-kinds.r) κs
+
+abbrev pub output-in-job : (κs : Lfts 4) → JobLeft κs → List ℕ
+output-in-job κs s = let pictures = s .1 .1 .1 .1 .1 in now (pictures .1 .1 .0)
+
+abbrev pub marks-in-job : (κs : Lfts 4) → JobLeft κs → List ℕ
+marks-in-job κs s = let pictures = s .1 .1 .1 .1 .1 in now (pictures .1 .1 .1 .0)
+
+-- a call of open_picture
 pub record OpenCall : Type 0 where
   pub lifetimes : Lfts 1
   pub handed : ArgsD opening.signature lifetimes
   pub answered : ResD opening.signature lifetimes
-  pub left : AtExit (endedOf 1 opening-kinds.ps opening-kinds.r) lifetimes
+  pub left : OpenLeft lifetimes
   pub kept : opening-reads.Post lifetimes handed answered left
 
 module _ (c : OpenCall) where
@@ -37,17 +54,17 @@ module _ (c : OpenCall) where
   marks-before = now (c .handed .1 .1 .0)
 
   abbrev pub marks-opened : List ℕ
-  marks-opened = now (c .left .1 .1 .0)
+  marks-opened = marks-in-opening (c .lifetimes) (c .left)
 
   abbrev pub opening-said : Outcome
   opening-said = opened-says (c .answered)
 
--- compose_job(plan, open_ticket, ticket, first, count, base, enhancement, output, marks)
+-- a call of compose_job
 pub record JobCall : Type 0 where
   pub lifetimes : Lfts 4
   pub handed : ArgsD composing.signature lifetimes
   pub answered : ResD composing.signature lifetimes
-  pub left : AtExit (endedOf 4 composing-kinds.ps composing-kinds.r) lifetimes
+  pub left : JobLeft lifetimes
   pub kept : composing-reads.Post lifetimes handed answered left
 
 module _ (c : JobCall) where
@@ -65,10 +82,10 @@ module _ (c : JobCall) where
   job-marks-before = let pictures = c .handed .1 .1 .1 .1 .1 in now (pictures .1 .1 .1 .0)
 
   abbrev pub output-left : List ℕ
-  output-left = let pictures = c .left .1 .1 .1 .1 .1 in now (pictures .1 .1 .0)
+  output-left = output-in-job (c .lifetimes) (c .left)
 
   abbrev pub marks-left : List ℕ
-  marks-left = let pictures = c .left .1 .1 .1 .1 .1 in now (pictures .1 .1 .1 .0)
+  marks-left = marks-in-job (c .lifetimes) (c .left)
 
   abbrev pub said : Outcome
   said = says (c .answered)

@@ -1,7 +1,13 @@
-// Calls that have ended as their promises say. The function computes nothing: its promise is the theorem.
+// Calls that have ended as their promises say. The functions compute nothing: their promises are the theorems.
 ghost use Rattle.calls.specs.Settled.{Settled};
+ghost use Rattle.calls.specs.inner.Leaves.{LeavesSettled};
 
-// Of each public call two outcomes that its promise allows are equal.
+// Of each call that a user can make two outcomes that its promise allows are equal.
 pub fn one_outcome()
     ensures { λ _. ⌜ Settled ⌝ }
+{}
+
+// And of each call that the product's own crates make of each other.
+pub fn one_outcome_of_leaves()
+    ensures { λ _. ⌜ LeavesSettled ⌝ }
 {}

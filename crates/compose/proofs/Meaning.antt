@@ -6,7 +6,8 @@ use Prim.Native.Nat.{ℕ, _+_, _%_, _^_, _<_, _≤_}
 use native.Mathlib.Omega.{arith}
 use lib.IntN.{ℤ, pos}
 use lib.ListN.{length, getD}
-use Rattle.runs.specs.Runs.{at, painted, between}
+use Rattle.runs.specs.Runs.{painted, between}
+use Rattle.runs.specs.inner.Loops.{at}
 use Rattle.runs.proofs.Between.{between-true}
 use Rattle.runs.proofs.Painting.{painted-cong}
 use Rattle.standard.specs.Mapping.{mapped}

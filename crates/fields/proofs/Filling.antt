@@ -8,7 +8,7 @@ use lib.ListN.{length, set, replicate}
 use lib.Seq.{sets}
 use Rattle.fields.specs.declared.Cursor.{Cursor}
 use Rattle.fields.specs.Fields.{Read, refused, got, _then_, repeated, padded}
-use Rattle.fields.specs.Cursors.{from, Reads, filled}
+use Rattle.fields.specs.inner.Cursors.{from, Reads, filled}
 use Rattle.fields.proofs.Following.{chain, alike}
 
 module _ {A : Type 0} where

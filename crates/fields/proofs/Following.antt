@@ -7,7 +7,7 @@ use lib.ListN.{drop}
 use Rattle.fields.specs.declared.Name.{Name}
 use Rattle.fields.specs.declared.Cursor.{Cursor}
 use Rattle.fields.specs.Fields.{Read, refused, got, _then_}
-use Rattle.fields.specs.Cursors.{from, Reads}
+use Rattle.fields.specs.inner.Cursors.{from, Reads}
 
 -- readings that come to the same
 pub alike : {A : Type 0} (s : List ℕ) (c : Cursor) {p q : List ℕ → Read A} → ((b : List ℕ) → p b ≡ q b) → from s c p ≡ from s c q

@@ -9,7 +9,7 @@ ghost use mathlib.Core.Path.{_≡_};
 ghost use Prim.Native.Nat.{_^_, _≤_, _<_};
 ghost use lib.Dec.{leb, ltb};
 ghost use Rattle.fields.specs.Fields.{wide, no-name};
-ghost use Rattle.fields.specs.Cursors.{start, halted, step, judged, over};
+ghost use Rattle.fields.specs.inner.Cursors.{start, halted, step, judged, over};
 
 // Which field: a kind, by the numbers of the crate that reads it, and as many indices as it has.
 pub struct Name {

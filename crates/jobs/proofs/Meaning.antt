@@ -14,7 +14,8 @@ use Rattle.picture.specs.Picture.{pair-at}
 use Rattle.plan.specs.Rule7.{fitting}
 use Rattle.rules.specs.Rules.{extent, names, rules, refusal}
 use Rattle.compose.specs.Composing as composing
-use Rattle.jobs.specs.Jobs.{Job, job-refusal, accepted, sample, done, is-waiting, output-after, marks-after, job-answer}
+use Rattle.jobs.specs.Jobs.{Job, job-refusal, accepted, sample, output-after, marks-after, job-answer}
+use Rattle.marks.specs.Marks.{done, is-waiting}
 
 -- an answer, an output and marks are those that the definitions give
 abbrev pub Ends : Job → List ℕ → List ℕ → Outcome → List ℕ → List ℕ → Type 0

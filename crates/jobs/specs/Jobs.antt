@@ -7,6 +7,7 @@ use lib.ListN.{length, getD}
 use Rattle.runs.specs.Runs.{painted, tally}
 use Rattle.refusals.specs.Refusals.{Rule, rule, first-met}
 use Rattle.refusals.specs.Outcomes.{Outcome, granted, denied, outcome}
+use Rattle.marks.specs.Marks.{done, is-waiting}
 use Rattle.picture.specs.Picture.{pair-at}
 use Rattle.plan.specs.declared.Plan.{Plan}
 use Rattle.rules.specs.Rules.{Given, given, extent, names, rules}
@@ -38,13 +39,6 @@ accepted j output-length marks-length = eqb (job-refusal j output-length marks-l
 -- demand 2: the sample at index i is the composing process of clause 5.4 at that sample's base and enhancement values
 abbrev pub sample : Job → ℕ → ℕ
 sample j = composed-at (j .work .plan) (j .work .base) (j .work .enhancement)
-
--- the mark of a row pair that is done, and whether one waits
-abbrev pub done : ℕ → ℕ
-done k = 1
-
-abbrev pub is-waiting : ℕ → Bool
-is-waiting mark = eqb mark 0
 
 -- an accepted job composes its row pairs and marks those that it names, and writes nothing else
 unfoldable pub output-after : Job → List ℕ → List ℕ → List ℕ

@@ -1,5 +1,5 @@
 -- Opening a picture: rules 7 and 9 (marks only), then every mark is cleared.
-use mathlib.Core.Bool.{Bool, true, not, cond}
+use mathlib.Core.Bool.{Bool, not, cond}
 use mathlib.Core.List.{List, [], _∷_}
 use Prim.Native.Nat.{ℕ}
 use lib.Dec.{eqb}
@@ -7,6 +7,7 @@ use lib.ListN.{length, getD}
 use Rattle.runs.specs.Runs.{painted}
 use Rattle.refusals.specs.Refusals.{rule, first-met}
 use Rattle.refusals.specs.Outcomes.{Outcome, granted, denied, outcome}
+use Rattle.marks.specs.Marks.{every-pair, waiting}
 use Rattle.plan.specs.declared.Plan.{Plan}
 use Rattle.plan.specs.Rule7.{fitting}
 use Rattle.jobs.specs.declared.Opened.{Opened}
@@ -30,11 +31,5 @@ abbrev pub handed-back : Outcome → ℕ
 handed-back o = getD (o .values) 0 0
 
 -- every mark is cleared; a refused opening writes nothing
-abbrev pub every-pair : ℕ → Bool
-every-pair k = true
-
-abbrev pub waiting : ℕ → ℕ
-waiting k = 0
-
 unfoldable pub opening-marks : Plan → List ℕ → List ℕ
 opening-marks p marks = cond (opening-accepted p (length marks)) (painted every-pair waiting marks) marks

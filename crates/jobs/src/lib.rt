@@ -1,5 +1,4 @@
 // A picture is opened, and its row pairs are composed by jobs that may come in any order and any number of times.
-mod marks; // a byte for each row pair
 mod early; // the rules before any picture is looked at
 
 use compose::compose_row_pairs;

@@ -2,7 +2,7 @@
 use plan::limits::PIVOTS;
 ghost use mathlib.Core.Path.{_≡_};
 ghost use Prim.Native.Nat.{ℕ, _<_, _≤_, _^_};
-ghost use Rattle.runs.specs.Runs.{at};
+ghost use Rattle.runs.specs.inner.Loops.{at};
 ghost use Rattle.runs.specs.inner.Tables.{table};
 ghost use Rattle.plan.specs.Ranges.{most-n};
 ghost use Rattle.plan.specs.Rule7.{pivot-places};

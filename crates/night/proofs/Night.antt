@@ -17,8 +17,10 @@ use Rattle.plan.specs.declared.Plan.{Plan}
 use Rattle.plan.specs.Rule7.{fitting}
 use Rattle.rules.specs.Rules.{extent, names}
 use Rattle.compose.specs.Composing.{composed-at}
-use Rattle.jobs.specs.Opening.{every-pair, waiting, opening-refusal, opening-accepted, opening-marks}
-use Rattle.jobs.specs.Jobs.{Job, job-refusal, accepted, sample, done, is-waiting, output-after, marks-after, job-answer, complete}
+use Rattle.jobs.specs.Opening.{opening-refusal, opening-accepted, opening-marks}
+use Rattle.marks.specs.Marks.{every-pair, waiting}
+use Rattle.jobs.specs.Jobs.{Job, job-refusal, accepted, sample, output-after, marks-after, job-answer, complete}
+use Rattle.marks.specs.Marks.{done, is-waiting}
 use Rattle.jobs.proofs.Samples.{same-sample}
 use Rattle.night.specs.Night.{Memory, step, run, opened, named, count-below, rows-left-after, Keeps, AllKeep, none, more, Sent, here, later, Leaves, StandbyNight}
 use Rattle.night.proofs.Counting.{count-cong, left-waiting}

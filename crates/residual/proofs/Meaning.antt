@@ -7,7 +7,7 @@ use native.Mathlib.Nat.{lt-of-lt-of-le, mod-eq-of-lt}
 use native.Mathlib.Omega.{arith}
 use lib.IntN.{ℤ, pos}
 use lib.Pow.{pow-mono}
-use Rattle.runs.specs.Runs.{at}
+use Rattle.runs.specs.inner.Loops.{at}
 use Rattle.runs.proofs.Tables.{at-table, coded-in}
 use Rattle.standard.specs.Residual.{residual}
 use Rattle.standard.specs.Reconstruction.{reconstructed}

@@ -8,7 +8,8 @@ use native.Mathlib.Omega.{arith}
 use lib.ListN.{length, getD}
 use lib.Dec.{eqb}
 use borrow.Rule.Slice.PartMut.{putMid}
-use Rattle.runs.specs.Runs.{at, painted, between, below}
+use Rattle.runs.specs.Runs.{painted, between}
+use Rattle.runs.specs.inner.Loops.{at, below}
 use Rattle.runs.proofs.Between.{in-between, between-empty, between-more}
 use Rattle.runs.proofs.Painting.{length-painted, painted-none}
 use Rattle.runs.proofs.Parts.{part, length-part, at-part, painted-part}

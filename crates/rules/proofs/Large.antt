@@ -6,7 +6,8 @@ use Prim.Native.Nat.{ℕ, _+_, _≤_, _<_, _^_}
 use native.Mathlib.Omega.{arith}
 use lib.Dec.{leb}
 use lib.ListN.{length}
-use Rattle.runs.specs.Runs.{between, some, at-least, greatest}
+use Rattle.runs.specs.Runs.{between, some, at-least}
+use Rattle.runs.specs.inner.Loops.{greatest}
 use Rattle.runs.proofs.Between.{between-true}
 use Rattle.runs.proofs.Greatest.{part, reached}
 use Rattle.runs.proofs.Testing.{some-cong}

@@ -9,7 +9,8 @@ use lib.Dec.{leb}
 use lib.ListN.{length, getD, take, drop, length-take, length-drop}
 use lib.Seq.{getD-take, getD-drop}
 use borrow.Author.Tests.{le-leb, lt-leb}
-use Rattle.runs.specs.Runs.{some, between, at-least, greatest}
+use Rattle.runs.specs.Runs.{some, between, at-least}
+use Rattle.runs.specs.inner.Loops.{greatest}
 use Rattle.runs.proofs.Between.{lt-or-ge, in-between, between-true}
 use Rattle.runs.proofs.Testing.{some-none, some-some}
 

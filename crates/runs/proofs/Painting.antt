@@ -10,7 +10,8 @@ use native.Mathlib.Decide.{ℕ-discrete}
 use lib.ListN.{length, getD, set, length-set}
 use lib.Seq.{ext-getD, getD-set-same, getD-set-other}
 use borrow.Author.Tests.{ne-eqb}
-use Rattle.runs.specs.Runs.{map-from, painted, between, below}
+use Rattle.runs.specs.Runs.{map-from, painted, between}
+use Rattle.runs.specs.inner.Loops.{below}
 use Rattle.runs.proofs.Between.{lt-or-ge, in-between, over-between, between-empty, between-more, between-join}
 
 length-map-from : (f : ℕ → ℕ → ℕ) (k : ℕ) (l : List ℕ) → length (map-from f k l) ≡ length l

@@ -1,21 +1,12 @@
--- A run of numbers written over at selected places, a test at selected places of a run, a count, and the greatest of a run. Assumes nothing.
+-- A run of numbers written over at selected places, a test at selected places of a run, and a count. Assumes nothing.
 use mathlib.Core.Bool.{Bool, false, _&&_, _||_, cond}
 use mathlib.Core.List.{List, [], _∷_}
-use Prim.Native.Nat.{ℕ, suc, _+_, max}
+use Prim.Native.Nat.{ℕ, suc, _+_}
 use lib.Dec.{leb, ltb}
-use lib.ListN.{getD}
-
--- what stands at an index; 0 past the end
-abbrev pub at : List ℕ → ℕ → ℕ
-at run i = getD run i 0
 
 -- the indices from a up to, but not including, b
 unfoldable pub between : ℕ → ℕ → ℕ → Bool
 between a b i = leb a i && ltb i b
-
--- the indices below n
-abbrev pub below : ℕ → ℕ → Bool
-below n = between 0 n
 
 -- the run with f i x in the place of each element x; its first element has the index i
 unfoldable pub map-from : (ℕ → ℕ → ℕ) → ℕ → List ℕ → List ℕ
@@ -43,8 +34,3 @@ at-least limit x = leb limit x
 unfoldable pub tally : (ℕ → Bool) → List ℕ → ℕ
 tally test [] = 0
 tally test (x ∷ xs) = cond (test x) 1 0 + tally test xs
-
--- the greatest element, 0 where there is none
-unfoldable pub greatest : List ℕ → ℕ
-greatest [] = 0
-greatest (x ∷ xs) = max x (greatest xs)

@@ -14,7 +14,7 @@ ghost use mathlib.Core.Path.{_≡_};
 ghost use Prim.Native.Nat.{_<_, _≤_};
 ghost use lib.Dec.{eqb};
 ghost use lib.IntN.{natAbs};
-ghost use Rattle.fields.specs.Cursors.{step};
+ghost use Rattle.fields.specs.inner.Cursors.{step};
 ghost use Rattle.fields.specs.declared.Width.the-variants.{One};
 ghost use Rattle.section_fields.specs.Fields.{asked, signed, integer-fits, refused-idc};
 

@@ -17,7 +17,7 @@ use Rattle.fields.specs.declared.Width.the-variants.{One, Four}
 use Rattle.fields.specs.declared.Ask.{Ask}
 use Rattle.fields.specs.declared.Cursor.{Cursor}
 use Rattle.fields.specs.Fields.{got, _then_, no-name, repeated, padded, ended}
-use Rattle.fields.specs.Cursors.{start, from, Reads, filled}
+use Rattle.fields.specs.inner.Cursors.{start, from, Reads, filled}
 use Rattle.fields.proofs.Following.{joined, done}
 use Rattle.fields.proofs.Filling.{listed}
 use Rattle.section_fields.specs.Fields.{asked, ranged, signed, integer-fits}

@@ -14,7 +14,7 @@ ghost use mathlib.Core.Path.{_≡_};
 ghost use Prim.Native.Nat.{_^_, _<_, _≤_};
 ghost use lib.Dec.{ltb};
 ghost use Rattle.plan.specs.inner.Facts.{HeaderFacts};
-ghost use Rattle.fields.specs.Cursors.{Reads};
+ghost use Rattle.fields.specs.inner.Cursors.{Reads};
 ghost use Rattle.section_fields.specs.Fields.{ranged};
 ghost use Rattle.sections.specs.Sections.{coefficient, unsigned};
 

@@ -14,7 +14,7 @@ ghost use Prim.Native.Nat.{_≤_};
 ghost use lib.IntN.{pos};
 ghost use Rattle.plan.specs.inner.Facts.{HeaderFacts};
 ghost use Rattle.plan.specs.Rule7.{row-places, piece-places, zero-piece};
-ghost use Rattle.fields.specs.Cursors.{Reads, filled};
+ghost use Rattle.fields.specs.inner.Cursors.{Reads, filled};
 ghost use Rattle.sections.specs.Sections.{coefficient, piece};
 
 pub(crate) struct RowRead {

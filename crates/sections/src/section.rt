@@ -22,7 +22,7 @@ use section_fields::kinds::THRESHOLD_INT;
 ghost use Prim.Native.Nat.{_≤_};
 ghost use Rattle.plan.specs.inner.Facts.{HeaderFacts};
 ghost use Rattle.plan.specs.Rule7.{pivot-places};
-ghost use Rattle.fields.specs.Cursors.{Reads, filled, start};
+ghost use Rattle.fields.specs.inner.Cursors.{Reads, filled, start};
 ghost use Rattle.sections.specs.Sections.{pivot, nlq, section};
 
 pub(crate) struct PivotsRead {

@@ -9,7 +9,8 @@ use entries::raised_entry;
 ghost use mathlib.Core.Path.{_≡_};
 ghost use Prim.Native.Nat.{min};
 ghost use lib.ListN.{length};
-ghost use Rattle.runs.specs.Runs.{painted, below, greatest};
+ghost use Rattle.runs.specs.Runs.{painted};
+ghost use Rattle.runs.specs.inner.Loops.{below, greatest};
 ghost use Rattle.spans.specs.inner.Spans.{looked-up, added-up};
 
 // Writes what the table has for each sample.

@@ -4,7 +4,7 @@ ghost use mathlib.Core.Path.{_≡_};
 ghost use Prim.Native.Nat.{_<_, _≤_};
 ghost use Rattle.runs.specs.Runs.{painted};
 ghost use Rattle.block.specs.Facts.{Sound};
-ghost use Rattle.streams.specs.Untouched.{everywhere, untouched};
+ghost use Rattle.streams.specs.inner.Untouched.{everywhere, untouched};
 
 // A number of the input; `there` is false where the input has ended.
 pub struct Number {

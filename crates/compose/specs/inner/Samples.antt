@@ -5,7 +5,8 @@ use mathlib.Core.List.{List}
 use Prim.Native.Nat.{ℕ, _^_, _<_}
 use lib.IntN.{pos}
 use lib.ListN.{length}
-use Rattle.runs.specs.Runs.{at, between}
+use Rattle.runs.specs.Runs.{between}
+use Rattle.runs.specs.inner.Loops.{at}
 use Rattle.standard.specs.Mapping.{mapped}
 use Rattle.standard.specs.Residual.{residual}
 use Rattle.standard.specs.Reconstruction.{reconstructed}

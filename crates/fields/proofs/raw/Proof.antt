@@ -9,7 +9,7 @@ use borrow.Author.Needs.{needs}
 use borrow.Author.Tests.{lt-ltb, le-ltb}
 use Rattle.fields.specs.declared.Field.{Field}
 use Rattle.fields.specs.Fields.{wide}
-use Rattle.fields.specs.Cursors.{halted, step}
+use Rattle.fields.specs.inner.Cursors.{halted, step}
 use Rattle.fields.proofs.raw.Statement.{statement}
 use Rattle.fields.proofs.raw.Tie as tie
 

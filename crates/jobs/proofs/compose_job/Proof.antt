@@ -9,6 +9,7 @@ use Rattle.refusals.proofs.Laws.{outcome-number}
 use Rattle.plan.proofs.Facts.{header-facts}
 use Rattle.rules.specs.Rules.{refusal}
 use Rattle.rules.proofs.Accepting.{Accepted, accepted}
+use Rattle.marks.proofs.Marking.{all-marked}
 use Rattle.jobs.specs.Jobs.{Job, job}
 use Rattle.jobs.proofs.Meaning.{ticket-refused, marks-refused, composing-refused, composing-done}
 use Rattle.jobs.proofs.compose_job.Statement.{statement}
@@ -95,9 +96,7 @@ add-last : tie.Need-add-last
 add-last c = let a = inside c in omega (arith, header-facts _ (a .fits) .few-pairs, a .sizes .pairs)
 
 mark-requires : tie.Need-mark-requires
-mark-requires c κs =
-    let e : tie.Else3 = search needs in
-    (omega arith, omega (arith, inside e .sizes .pairs, marks-fit (marked (numbered e))))
+mark-requires c κs = search needs
 
 waiting-requires : tie.Need-waiting-requires
 waiting-requires c κs = search needs
@@ -118,7 +117,7 @@ returns-4 c =
     let e = marked n in
     let st = start (ticketed e) in
     composing-done (called st) (st .args .output .now) (st .args .marks .now) (ticketed e .if1 .left) (marks-fit e) (l .waiting .result) _ _
-    (sym (number-is n) ∙ e3 .if3 .left) (w .compose-row-pairs .ensures .1) (m .mark .ensures) (l .waiting .ensures)
+    (sym (number-is n) ∙ e3 .if3 .left) (w .compose-row-pairs .ensures .1) (m .mark .ensures ∙ all-marked _ _ _ (omega arith) (omega (arith, inside e3 .sizes .pairs, marks-fit e))) (l .waiting .ensures)
 
 pub compose-job-spec : {M : Type 1} → statement M
 compose-job-spec =

@@ -3,7 +3,7 @@ use mathlib.Core.List.{List}
 use Prim.Native.Nat.{ℕ, _+_, _^_, _<_, _≤_}
 use lib.IntN.{ℤ, pos, natAbs}
 use lib.ListN.{getD}
-use Rattle.runs.specs.Runs.{at}
+use Rattle.runs.specs.inner.Loops.{at}
 use Rattle.standard.specs.Mapping.{piece, clamped, poly-sum, cut}
 use Rattle.plan.specs.declared.Piece.{Piece}
 use Rattle.plan.specs.Rule7.{no-piece}

@@ -6,7 +6,7 @@ use borrow.Author.Tests.{not-true, not-false}
 use Prim.Native.Nat.{_-_, _≤_}
 use native.Mathlib.Omega.{arith}
 use lib.IntN.{pos}
-use Rattle.runs.specs.Runs.{at}
+use Rattle.runs.specs.inner.Loops.{at}
 use Rattle.runs.proofs.Tables.{Filled, fill-none, fill-more, fill-all, zero-table}
 use Rattle.standard.specs.Reconstruction.{reconstructed}
 use Rattle.plan.specs.Ranges.{header-fits}

@@ -7,7 +7,7 @@ use native.Mathlib.Numerals.{add-one}
 use native.Mathlib.Omega.{arith}
 use lib.ListN.{length, take}
 use lib.Seq.{take-all}
-use Rattle.runs.specs.Runs.{greatest}
+use Rattle.runs.specs.inner.Loops.{greatest}
 use Rattle.runs.proofs.Greatest.{greatest-more}
 use Rattle.spans.proofs.largest.Statement.{statement}
 use Rattle.spans.proofs.largest.Tie as tie

@@ -1,7 +1,7 @@
 -- What the loops over a run of samples write at an index. An index of a table is taken below its size, so any sample is one.
 use mathlib.Core.List.{List}
 use Prim.Native.Nat.{ℕ, _+_, _/_, _%_}
-use Rattle.runs.specs.Runs.{at}
+use Rattle.runs.specs.inner.Loops.{at}
 
 -- what a table of 1024 places has for a sample
 abbrev pub entry : List ℕ → ℕ → ℕ

@@ -7,7 +7,7 @@ use borrow.Author.Needs.{needs}
 use Rattle.runs.specs.Runs.{painted, between}
 use Rattle.runs.proofs.Between.{in-between, between-empty}
 use Rattle.runs.proofs.Painting.{painted-none, painted-more, painted-cong}
-use Rattle.streams.specs.Untouched.{untouched}
+use Rattle.streams.specs.inner.Untouched.{untouched}
 use Rattle.streams.proofs.untouch.Statement.{statement}
 use Rattle.streams.proofs.untouch.Tie as tie
 

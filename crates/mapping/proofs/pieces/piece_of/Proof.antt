@@ -4,7 +4,7 @@ use borrow.Author.Count.{below-more}
 use Prim.Native.Nat.{ℕ, _+_, _-_, _<_, _≤_}
 use native.Mathlib.Omega.{arith}
 use Rattle.standard.proofs.Pieces.{is-piece}
-use Rattle.runs.specs.Runs.{at}
+use Rattle.runs.specs.inner.Loops.{at}
 use Rattle.mapping.proofs.pieces.piece_of.Statement.{statement}
 use Rattle.mapping.proofs.pieces.piece_of.Tie as tie
 

@@ -5,7 +5,7 @@ use Prim.Native.Nat.{ℕ, _+_, _-_, _≤_, _^_}
 use native.Mathlib.Nat.{le-of-lt}
 use native.Mathlib.Omega.{arith}
 use Rattle.plan.specs.Rule7.{pivot-places}
-use Rattle.runs.specs.Runs.{at}
+use Rattle.runs.specs.inner.Loops.{at}
 use Rattle.runs.proofs.Tables.{Filled, fill-none, fill-more, fill-all}
 use Rattle.standard.specs.Mapping.{pivot-value}
 use Rattle.standard.proofs.Pivots.{total, total-none, total-more, total-pivot, total-le}

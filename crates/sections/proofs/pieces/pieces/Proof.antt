@@ -3,7 +3,7 @@ use Prim.Native.Nat.{_-_}
 use native.Mathlib.Omega.{arith}
 use borrow.Author.Needs.{needs}
 use Rattle.plan.specs.Rule7.{piece-places, zero-piece}
-use Rattle.fields.specs.Cursors.{from, filled}
+use Rattle.fields.specs.inner.Cursors.{from, filled}
 use Rattle.fields.proofs.Filling.{Filling, begun, more, finished}
 use Rattle.sections.specs.Sections.{piece}
 use Rattle.sections.proofs.pieces.pieces.Statement.{statement}

@@ -7,7 +7,7 @@ use mir.Facts.{toZ-ofZ}
 use mir.Syntax.{w64}
 use mir.Val.{SFits}
 use Rattle.plan.specs.Rule7.{row-places}
-use Rattle.fields.specs.Cursors.{from, filled}
+use Rattle.fields.specs.inner.Cursors.{from, filled}
 use Rattle.fields.proofs.Filling.{Filling, begun, more, finished}
 use Rattle.sections.specs.Sections.{coefficient}
 use Rattle.sections.proofs.pieces.row.Statement.{statement}

@@ -4,7 +4,7 @@ use native.Mathlib.Omega.{arith}
 use borrow.Author.Needs.{needs}
 use lib.Pow.{pow-mono}
 use Rattle.plan.specs.Rule7.{pivot-places}
-use Rattle.fields.specs.Cursors.{from, filled}
+use Rattle.fields.specs.inner.Cursors.{from, filled}
 use Rattle.fields.proofs.Filling.{Filling, begun, more, finished}
 use Rattle.sections.specs.Sections.{pivot}
 use Rattle.sections.proofs.section.pivots.Statement.{statement}

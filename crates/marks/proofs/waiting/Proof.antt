@@ -10,9 +10,9 @@ use borrow.Author.Needs.{needs}
 use borrow.Author.Tests.{eq-eqb, ne-eqb}
 use Rattle.runs.specs.Runs.{tally}
 use Rattle.runs.proofs.Counting.{tally-more}
-use Rattle.jobs.specs.Jobs.{is-waiting}
-use Rattle.jobs.proofs.marks.waiting.Statement.{statement}
-use Rattle.jobs.proofs.marks.waiting.Tie as tie
+use Rattle.marks.specs.Marks.{is-waiting}
+use Rattle.marks.proofs.waiting.Statement.{statement}
+use Rattle.marks.proofs.waiting.Tie as tie
 
 abbrev Inv-loop : tie.InvT-loop
 Inv-loop marks left₀ k₀ left k = (k ≤ length marks) × ((left ≡ tally is-waiting (take k marks)) × (left ≤ k))

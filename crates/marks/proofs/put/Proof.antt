@@ -6,8 +6,8 @@ use borrow.Author.Needs.{needs}
 use Rattle.runs.specs.Runs.{painted, between}
 use Rattle.runs.proofs.Between.{between-empty}
 use Rattle.runs.proofs.Painting.{painted-none, painted-more}
-use Rattle.jobs.proofs.marks.put.Statement.{statement}
-use Rattle.jobs.proofs.marks.put.Tie as tie
+use Rattle.marks.proofs.put.Statement.{statement}
+use Rattle.marks.proofs.put.Tie as tie
 
 abbrev Inv-loop : tie.InvT-loop
 Inv-loop value from to marks₀ k₀ marks k = (from ≤ k) × ((k ≤ to) × ((marks ≡ painted (between from k) (λ i. value) marks₀) × (length marks ≡ length marks₀)))

@@ -3,8 +3,7 @@ ghost use mathlib.Core.Path.{_≡_};
 ghost use Prim.Native.Nat.{_≤_};
 ghost use lib.ListN.{length};
 ghost use Rattle.runs.specs.Runs.{painted, between, tally};
-ghost use Rattle.jobs.specs.Jobs.{done, is-waiting};
-ghost use Rattle.jobs.specs.Opening.{every-pair, waiting};
+ghost use Rattle.marks.specs.Marks.{every-pair, waiting, is-waiting, marked};
 
 // Writes a value to the marks from `from` up to, but not including, `to`.
 fn put(value: u8, from: usize, to: usize, marks: &mut [u8])
@@ -20,24 +19,28 @@ fn put(value: u8, from: usize, to: usize, marks: &mut [u8])
 }
 
 // Every row pair waits.
-pub(crate) fn clear(marks: &mut [u8])
+pub fn clear(marks: &mut [u8])
     ensures { λ _. ⌜ now (marks .exit) ≡ painted every-pair waiting (now (marks .entry)) ⌝ }
 {
     let pairs = marks.len();
     put(0, 0, pairs, marks);
 }
 
-// The row pairs from `from` up to, but not including, `to` are done.
-pub(crate) fn mark(from: usize, to: usize, marks: &mut [u8])
-    requires { ⌜ from ≤ to ⌝ }
-    requires { ⌜ to ≤ length (now marks) ⌝ }
-    ensures { λ _. ⌜ now (marks .exit) ≡ painted (between from to) done (now (marks .entry)) ⌝ }
+// The row pairs from `from` up to, but not including, `to` are done. Where they do not all have a mark, nothing is written.
+pub fn mark(from: usize, to: usize, marks: &mut [u8])
+    ensures { λ _. ⌜ now (marks .exit) ≡ marked from to (now (marks .entry)) ⌝ }
 {
+    if to < from {
+        return;
+    }
+    if marks.len() < to {
+        return;
+    }
     put(1, from, to, marks);
 }
 
 // How many row pairs wait.
-pub(crate) fn waiting(marks: &[u8]) -> usize
+pub fn waiting(marks: &[u8]) -> usize
     ensures { λ r. ⌜ r ≡ tally is-waiting (now (marks .entry)) ⌝ }
 {
     let mut left: usize = 0;

@@ -4,8 +4,8 @@ use borrow.Author.Needs.{needs}
 use lib.ListN.{length}
 use Rattle.runs.proofs.Between.{in-between}
 use Rattle.runs.proofs.Painting.{painted-cong}
-use Rattle.jobs.proofs.marks.clear.Statement.{statement}
-use Rattle.jobs.proofs.marks.clear.Tie as tie
+use Rattle.marks.proofs.clear.Statement.{statement}
+use Rattle.marks.proofs.clear.Tie as tie
 
 put-requires : tie.Need-put-requires
 put-requires c κs = search needs

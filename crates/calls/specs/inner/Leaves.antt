@@ -1,0 +1,31 @@
+-- The same of the calls that the product's own crates make of each other.
+use denote.Ref.{now}
+use Rattle.picture.proofs.planes_of.Reads as planes-of-promise
+use Rattle.rules.proofs.extent_of.Reads as extent-of-promise
+use Rattle.rules.proofs.is_used.Reads as is-used-promise
+use Rattle.spans.proofs.largest.Reads as largest-promise
+use Rattle.spans.proofs.look_up.Reads as look-up-promise
+use Rattle.spans.proofs.add_up.Reads as add-up-promise
+use Rattle.picture.proofs.lies.Reads as lies-promise
+use Rattle.rows.proofs.look_up_rows.Reads as look-up-rows-promise
+use Rattle.rows.proofs.add_up_rows.Reads as add-up-rows-promise
+use Rattle.mapping.proofs.mapped_table.Reads as mapped-table-promise
+use Rattle.residual.proofs.residual_table.Reads as residual-table-promise
+use Rattle.residual.proofs.finished_table.Reads as finished-table-promise
+use Rattle.residual.proofs.cut_table.Reads as cut-table-promise
+use Rattle.calls.specs.Settled.{OneAnswer, OneContent}
+
+pub record LeavesSettled : Type 0 where
+  pub planes-of : OneAnswer planes-of-promise.Post
+  pub extent-of : OneAnswer extent-of-promise.Post
+  pub is-used : OneAnswer is-used-promise.Post
+  pub largest : OneAnswer largest-promise.Post
+  pub looked-up-output : OneContent look-up-promise.Post (λ κs s. now (s .1 .1 .0))
+  pub added-up-output : OneContent add-up-promise.Post (λ κs s. now (s .1 .1 .1 .1 .1 .0))
+  pub looked-up-rows : OneContent look-up-rows-promise.Post (λ κs s. now (s .1 .1 .1 .1 .0))
+  pub added-up-rows : OneContent add-up-rows-promise.Post (λ κs s. now (s .1 .1 .1 .1 .1 .1 .1 .0))
+  pub lies : OneAnswer lies-promise.Post
+  pub mapped-table : OneAnswer mapped-table-promise.Post
+  pub residual-table : OneAnswer residual-table-promise.Post
+  pub finished-table : OneAnswer finished-table-promise.Post
+  pub cut-table : OneAnswer cut-table-promise.Post
