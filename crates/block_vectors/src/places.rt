@@ -7,6 +7,8 @@ use plan::Header;
 use plan::Nlq;
 use plan::Piece;
 use plan::Plan;
+use plan::limits::PIECES;
+use plan::limits::PIVOTS;
 ghost use Prim.Native.Nat.{_≤_};
 
 fn put_header(line: &mut [u8; 8192], at: usize, h: Header) -> usize {
@@ -23,12 +25,12 @@ fn put_header(line: &mut [u8; 8192], at: usize, h: Header) -> usize {
     put_place(line, end, 10, false, h.darkest as u64)
 }
 
-fn put_pivots(line: &mut [u8; 8192], at: usize, first: usize, preds: [u16; 17]) -> usize
+fn put_pivots(line: &mut [u8; 8192], at: usize, first: usize, preds: [u16; PIVOTS]) -> usize
     requires { ⌜ first ≤ 1000 ⌝ }
 {
     let mut end = at;
     let mut i: usize = 0;
-    while i < 17 {
+    while i < PIVOTS {
         end = put_place(line, end, first + i, false, preds[i] as u64);
         i += 1;
     }
@@ -46,12 +48,12 @@ fn put_piece(line: &mut [u8; 8192], at: usize, first: usize, q: Piece) -> usize
     put_signed(line, end, first + 4, row[2])
 }
 
-fn put_pieces(line: &mut [u8; 8192], at: usize, first: usize, pieces: [Piece; 17]) -> usize
+fn put_pieces(line: &mut [u8; 8192], at: usize, first: usize, pieces: [Piece; PIECES]) -> usize
     requires { ⌜ first ≤ 900 ⌝ }
 {
     let mut end = at;
     let mut p: usize = 0;
-    while p < 17 {
+    while p < PIECES {
         let q = pieces[p];
         end = put_piece(line, end, first + 5 * p, q);
         p += 1;

@@ -6,10 +6,13 @@ use plan::Header;
 use plan::Nlq;
 use plan::Piece;
 use plan::Plan;
+use plan::limits::PIECES;
+use plan::limits::PIVOTS;
 use saying::say;
 use saying::say_number;
 ghost use mathlib.Core.Bool.{true};
 ghost use mathlib.Core.Path.{_≡_};
+ghost use Rattle.plan.specs.Ranges.{most-n};
 ghost use Prim.Native.Nat.{_<_, _≤_};
 ghost use Rattle.plan.specs.Rule7.{fitting};
 
@@ -71,8 +74,8 @@ fn show_picture(h: Header) {
 }
 
 // The pivots' values: the running sums of the pred_pivot_value fields.
-fn show_pivots(n: u8, preds: [u16; 17])
-    requires { ⌜ n ≤ 15 ⌝ }
+fn show_pivots(n: u8, preds: [u16; PIVOTS])
+    requires { ⌜ n ≤ most-n ⌝ }
 {
     let count = wide(n) + 2;
     say(b"  pivot_value");
@@ -101,8 +104,8 @@ fn show_piece(p: usize, q: Piece, d: u8)
     }
 }
 
-fn show_pieces(n: u8, pieces: [Piece; 17], d: u8)
-    requires { ⌜ (n ≤ 15) × (d ≤ 32) ⌝ }
+fn show_pieces(n: u8, pieces: [Piece; PIECES], d: u8)
+    requires { ⌜ (n ≤ most-n) × (d ≤ 32) ⌝ }
 {
     let count = wide(n) + 1;
     let mut p: usize = 0;
@@ -123,7 +126,7 @@ fn show_nlq(q: Nlq, d: u8)
 }
 
 fn show_component(c: Component, d: u8)
-    requires { ⌜ (c .n ≤ 15) × (d ≤ 32) ⌝ }
+    requires { ⌜ (c .n ≤ most-n) × (d ≤ 32) ⌝ }
 {
     let n = c.n;
     let preds = c.preds;

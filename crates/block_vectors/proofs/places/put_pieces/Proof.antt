@@ -1,5 +1,6 @@
 use Prim.Native.Nat.{_-_}
 use borrow.Author.Needs.{needs}
+use Rattle.plan.specs.Rule7.{piece-places}
 use Rattle.block_vectors.proofs.places.put_pieces.Statement.{statement}
 use Rattle.block_vectors.proofs.places.put_pieces.Tie as tie
 
@@ -7,7 +8,7 @@ abbrev Inv-loop : tie.InvT-loop
 Inv-loop line₀ at first pieces end₀ p₀ line end p = Unit {0}
 
 abbrev μ-loop : tie.MeasureT-loop
-μ-loop line₀ at first pieces end₀ p₀ line end p = 17 - p
+μ-loop line₀ at first pieces end₀ p₀ line end p = piece-places - p
 
 loop-holds : tie.Need-loop-holds Inv-loop μ-loop
 loop-holds c = search needs

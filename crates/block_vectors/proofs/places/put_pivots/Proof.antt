@@ -1,5 +1,6 @@
 use Prim.Native.Nat.{_-_}
 use borrow.Author.Needs.{needs}
+use Rattle.plan.specs.Rule7.{pivot-places}
 use Rattle.block_vectors.proofs.places.put_pivots.Statement.{statement}
 use Rattle.block_vectors.proofs.places.put_pivots.Tie as tie
 
@@ -7,7 +8,7 @@ abbrev Inv-loop : tie.InvT-loop
 Inv-loop line₀ at first preds end₀ i₀ line end i = Unit {0}
 
 abbrev μ-loop : tie.MeasureT-loop
-μ-loop line₀ at first preds end₀ i₀ line end i = 17 - i
+μ-loop line₀ at first preds end₀ i₀ line end i = pivot-places - i
 
 loop-holds : tie.Need-loop-holds Inv-loop μ-loop
 loop-holds c = search needs

@@ -1,10 +1,11 @@
 use borrow.Author.Needs.{needs}
-use Prim.Native.Nat.{_-_, _≤_}
+use Prim.Native.Nat.{_+_, _-_, _≤_}
+use Rattle.plan.specs.Ranges.{most-n}
 use Rattle.inspect.proofs.show.show_pieces.Statement.{statement}
 use Rattle.inspect.proofs.show.show_pieces.Tie as tie
 
 abbrev Inv-loop : tie.InvT-loop
-Inv-loop n d pieces count p₀ p = count ≤ 16
+Inv-loop n d pieces count p₀ p = count ≤ most-n + 1
 
 abbrev μ-loop : tie.MeasureT-loop
 μ-loop n d pieces count p₀ p = count - p

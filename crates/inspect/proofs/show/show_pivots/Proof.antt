@@ -1,10 +1,11 @@
 use borrow.Author.Needs.{needs}
 use Prim.Native.Nat.{_*_, _-_, _≤_}
+use Rattle.plan.specs.Rule7.{pivot-places}
 use Rattle.inspect.proofs.show.show_pivots.Statement.{statement}
 use Rattle.inspect.proofs.show.show_pivots.Tie as tie
 
 abbrev Inv-loop : tie.InvT-loop
-Inv-loop n preds count sum₀ i₀ t8 t9 sum i = (count ≤ 17) × (sum ≤ 65535 * i)
+Inv-loop n preds count sum₀ i₀ t8 t9 sum i = (count ≤ pivot-places) × (sum ≤ 65535 * i)
 
 abbrev μ-loop : tie.MeasureT-loop
 μ-loop n preds count sum₀ i₀ t8 t9 sum i = count - i

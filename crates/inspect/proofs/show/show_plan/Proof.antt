@@ -2,14 +2,15 @@ use borrow.Author.Needs.{needs}
 use Prim.Native.Nat.{_≤_}
 use Rattle.plan.proofs.Facts.{header-facts, y-facts, cb-facts, cr-facts}
 use Rattle.plan.proofs.Sizes.{sized}
+use Rattle.plan.specs.Ranges.{most-n}
 use Rattle.inspect.proofs.show.show_plan.Statement.{statement}
 use Rattle.inspect.proofs.show.show_plan.Tie as tie
 
 -- what is shown of a plan that keeps every range
 record Shown (st : tie.Start) : Type 0 where
-  y : (st .args .plan .y .n ≤ 15) × (st .args .plan .header .d ≤ 32)
-  cb : (st .args .plan .cb .n ≤ 15) × (st .args .plan .header .d ≤ 32)
-  cr : (st .args .plan .cr .n ≤ 15) × (st .args .plan .header .d ≤ 32)
+  y : (st .args .plan .y .n ≤ most-n) × (st .args .plan .header .d ≤ 32)
+  cb : (st .args .plan .cb .n ≤ most-n) × (st .args .plan .header .d ≤ 32)
+  cr : (st .args .plan .cr .n ≤ most-n) × (st .args .plan .header .d ≤ 32)
 
 component : (st : tie.Start) → Shown st
 component st =
