@@ -4,6 +4,5 @@ pub mod Parts
 pub mod Testing
 pub mod Counting
 pub mod Filling
-pub mod Largest
-pub mod Greatest
+pub mod Joined
 pub mod Tables

@@ -1,30 +1,30 @@
-// Loops over whole slices: samples looked up in a table, samples added up by tables, and the largest sample.
-// A table has a place for every index that a loop can ask for, so that nothing is asked of the samples.
-mod entries;
+// Loops over whole slices: samples looked up in a table, samples added up by tables, and the bits of a run joined.
+// A table has a place for every index that a loop can ask for, so that nothing is asked of the samples; whether all are codes
+// is seen from their bits, in a pass that costs less than the remainders would.
+mod any; // samples that may be no codes
+mod codes; // samples that are codes
+mod entries; // what a table has for a sample
 
-use entries::cut_of;
-use entries::least;
-use entries::mapped_entry;
-use entries::raised_entry;
+use any::add_up_any;
+use any::look_up_any;
+use codes::add_up_codes;
+use codes::look_up_codes;
 ghost use mathlib.Core.Path.{_≡_};
 ghost use Prim.Native.Nat.{min};
 ghost use lib.ListN.{length};
 ghost use Rattle.runs.specs.Runs.{painted};
-ghost use Rattle.runs.specs.inner.Loops.{below, greatest};
+ghost use Rattle.runs.specs.inner.Loops.{below, joined};
 ghost use Rattle.spans.specs.inner.Spans.{looked-up, added-up};
 
 // Writes what the table has for each sample.
 pub fn look_up(table: &[u16; 1024], base: &[u16], output: &mut [u16])
     ensures { λ _. ⌜ now (output .exit) ≡ painted (below (length (now (base .entry)))) (looked-up (now (table .entry)) (now (base .entry))) (now (output .entry)) ⌝ }
 {
-    let n = least(base.len(), output.len());
-    let mut i = 0;
-    while i < n {
-        let s = base[i];
-        let v = mapped_entry(table, s);
-        output[i] = v;
-        i += 1;
+    if joined(base) < 1024 {
+        look_up_codes(table, base, output);
+        return;
     }
+    look_up_any(table, base, output);
 }
 
 // Writes the cut of each sum of a mapped sample and a raised residual: in one pass, without a branch or a shift that goes by
@@ -39,29 +39,22 @@ pub fn add_up(
 )
     ensures { λ _. ⌜ now (output .exit) ≡ painted (below (min (length (now (base .entry))) (length (now (enhancement .entry))))) (added-up (now (mapped .entry)) (now (raised .entry)) (now (cuts .entry)) (now (base .entry)) (now (enhancement .entry))) (now (output .entry)) ⌝ }
 {
-    let n = least(least(base.len(), enhancement.len()), output.len());
-    let mut i = 0;
-    while i < n {
-        let s = base[i];
-        let e = enhancement[i];
-        let h = cut_of(cuts, mapped_entry(mapped, s), raised_entry(raised, e));
-        output[i] = h;
-        i += 1;
+    if (joined(base) | joined(enhancement)) < 1024 {
+        add_up_codes(mapped, raised, cuts, base, enhancement, output);
+        return;
     }
+    add_up_any(mapped, raised, cuts, base, enhancement, output);
 }
 
-// The largest sample, 0 where there is none: whether some sample reaches a limit, for any limit.
-pub fn largest(run: &[u16]) -> u16
-    ensures { λ r. ⌜ r ≡ greatest (now (run .entry)) ⌝ }
+// Every bit that some sample has: whether one reaches a power of two.
+pub fn joined(run: &[u16]) -> u16
+    ensures { λ r. ⌜ r ≡ joined (now (run .entry)) ⌝ }
 {
-    let mut most = 0;
+    let mut bits: u16 = 0;
     let mut i = 0;
     while i < run.len() {
-        let x = run[i];
-        if most < x {
-            most = x;
-        }
+        bits = bits | run[i];
         i += 1;
     }
-    most
+    bits
 }

@@ -3,7 +3,7 @@ use denote.Ref.{now}
 use Rattle.picture.proofs.planes_of.Reads as planes-of-promise
 use Rattle.rules.proofs.extent_of.Reads as extent-of-promise
 use Rattle.rules.proofs.is_used.Reads as is-used-promise
-use Rattle.spans.proofs.largest.Reads as largest-promise
+use Rattle.spans.proofs.joined.Reads as joined-promise
 use Rattle.spans.proofs.look_up.Reads as look-up-promise
 use Rattle.spans.proofs.add_up.Reads as add-up-promise
 use Rattle.picture.proofs.lies.Reads as lies-promise
@@ -19,7 +19,7 @@ pub record LeavesSettled : Type 0 where
   pub planes-of : OneAnswer planes-of-promise.Post
   pub extent-of : OneAnswer extent-of-promise.Post
   pub is-used : OneAnswer is-used-promise.Post
-  pub largest : OneAnswer largest-promise.Post
+  pub joined : OneAnswer joined-promise.Post
   pub looked-up-output : OneContent look-up-promise.Post (λ κs s. now (s .1 .1 .0))
   pub added-up-output : OneContent add-up-promise.Post (λ κs s. now (s .1 .1 .1 .1 .1 .0))
   pub looked-up-rows : OneContent look-up-rows-promise.Post (λ κs s. now (s .1 .1 .1 .1 .0))

@@ -1,7 +1,8 @@
 -- What the loops over runs say of them.
 use mathlib.Core.Bool.{Bool}
 use mathlib.Core.List.{List, [], _∷_}
-use Prim.Native.Nat.{ℕ, max}
+use Prim.Native.Nat.{ℕ}
+use lib.Bits.{bitOr}
 use lib.ListN.{getD}
 use Rattle.runs.specs.Runs.{between}
 
@@ -13,7 +14,10 @@ at run i = getD run i 0
 abbrev pub below : ℕ → ℕ → Bool
 below n = between 0 n
 
--- the greatest element, 0 where there is none
-unfoldable pub greatest : List ℕ → ℕ
-greatest [] = 0
-greatest (x ∷ xs) = max x (greatest xs)
+-- every bit that some element has, and v's: whether an element reaches a power of two
+unfoldable pub joined-after : ℕ → List ℕ → ℕ
+joined-after v [] = v
+joined-after v (x ∷ xs) = joined-after (bitOr v x) xs
+
+abbrev pub joined : List ℕ → ℕ
+joined run = joined-after 0 run

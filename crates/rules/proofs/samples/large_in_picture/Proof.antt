@@ -2,6 +2,7 @@
 use mathlib.Core.Path.{_≡_, ap, subst, sym, _∙_}
 use mathlib.Core.Bool.{Bool}
 use borrow.Author.Needs.{needs}
+use Prim.Native.Nat.{_+_, _^_}
 use lib.ListN.{length}
 use Rattle.runs.specs.Runs.{between, some, at-least}
 use Rattle.picture.specs.declared.Plane.{Plane}
@@ -23,8 +24,8 @@ module _ (c : tie.After-planes-of) (of : Planes → Plane) where
   given : InPlane (of (planes (start c .args .e))) (start c .args .first) (start c .args .last) (length (start c .args .run .now)) → InPlane (of (c .planes-of .result)) (start c .args .first) (start c .args .last) (length (start c .args .run .now))
   given = subst (λ (x : Plane). InPlane x (start c .args .first) (start c .args .last) (length (start c .args .run .now))) (sym is-it)
 
-  found : (r : Bool) → r ≡ some (in-rows (of (c .planes-of .result)) (between (start c .args .first) (start c .args .last))) (at-least (start c .args .limit)) (start c .args .run .now) → r ≡ some (in-rows (of (planes (start c .args .e))) (between (start c .args .first) (start c .args .last))) (at-least (start c .args .limit)) (start c .args .run .now)
-  found r h = h ∙ ap (λ (x : Plane). some (in-rows x (between (start c .args .first) (start c .args .last))) (at-least (start c .args .limit)) (start c .args .run .now)) is-it
+  found : (r : Bool) → r ≡ some (in-rows (of (c .planes-of .result)) (between (start c .args .first) (start c .args .last))) (at-least (2 ^ (start c .args .minus8 + 8))) (start c .args .run .now) → r ≡ some (in-rows (of (planes (start c .args .e))) (between (start c .args .first) (start c .args .last))) (at-least (2 ^ (start c .args .minus8 + 8))) (start c .args .run .now)
+  found r h = h ∙ ap (λ (x : Plane). some (in-rows x (between (start c .args .first) (start c .args .last))) (at-least (2 ^ (start c .args .minus8 + 8))) (start c .args .run .now)) is-it
 
 luma : tie.Need-large-in-plane-requires
 luma c κs = let p : tie.After-planes-of = search needs in let s = start p in (given p (λ x. x .y) (in-luma-plane (s .args .e) _ _ _ (s .pre .0)), s .pre .1)
@@ -41,7 +42,7 @@ returns c =
     let s = start p in
     let y : tie.After-large-in-plane = search needs in
     let b : tie.After-large-in-plane2 = search needs in
-    large-picture (s .args .e) (s .args .first) (s .args .last) (s .args .limit) _ _ _ _ (s .pre .0)
+    large-picture (s .args .e) (s .args .first) (s .args .last) (2 ^ (s .args .minus8 + 8)) _ _ _ _ (s .pre .0)
     (found p (λ x. x .y) _ (y .large-in-plane .ensures))
     (found p (λ x. x .cb) _ (b .large-in-plane2 .ensures))
     (found p (λ x. x .cr) _ (c .large-in-plane3 .ensures))

@@ -1,5 +1,5 @@
 -- `rules::samples::large_in_plane` meets its contract: row pairs that follow each other are one part of the run. Assumes nothing.
-use Prim.Native.Nat.{_≤_}
+use Prim.Native.Nat.{_+_, _≤_}
 use native.Mathlib.Omega.{arith}
 use borrow.Author.Needs.{needs}
 use Rattle.picture.specs.inner.Planes.{row-start}
@@ -17,13 +17,15 @@ mul-a c = let s : tie.Start = search needs in omega (arith, forward s)
 add-a : tie.Need-add-a
 add-a c = let s : tie.Start = search needs in omega (arith, forward s)
 
-part-largest-start : tie.Need-part-largest-start
-part-largest-start c = let s : tie.Start = search needs in omega (arith, forward s)
+part-joined-start : tie.Need-part-joined-start
+part-joined-start c = let s : tie.Start = search needs in omega (arith, forward s)
 
 returns : tie.Need-returns
 returns c =
     let s : tie.Start = search needs in
-    large-plane (s .args .p) (s .args .first) (s .args .last) (s .args .limit) _ _ (s .pre .0) (s .pre .1) (c .largest .ensures)
+    let k : tie.After-codes-of = search needs in
+    let j : tie.After-joined = search needs in
+    large-plane (s .args .p) (s .args .first) (s .args .last) (s .args .minus8 + 8) _ _ _ (s .pre .0) (k .codes-of .ensures) (j .joined .ensures)
 
 pub large-in-plane-spec : {M : Type 1} → statement M
 large-in-plane-spec =
@@ -33,9 +35,10 @@ large-in-plane-spec =
     add-a
     (λ c. search needs)
     (λ c. search needs)
+    (λ c κs. search needs)
     (λ c. let s : tie.Start = search needs in omega (arith, forward s))
     (λ c. let s : tie.Start = search needs in omega (arith, forward s))
-    part-largest-start
+    part-joined-start
     (λ c. search needs)
     (λ c κs. search needs)
     returns)
