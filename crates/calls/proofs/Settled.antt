@@ -87,5 +87,5 @@ leaves-settled =
       mapped-table = λ κs a r r' s s' p q. p ∙ sym q;
       residual-table = λ κs a r r' s s' p q. p ∙ sym q;
       finished-table = λ κs a r r' s s' p q. p ∙ sym q;
-      cut-table = λ κs a r r' s s' p q. p ∙ sym q;
+      cut-numbers = λ κs a r r' s s' p q. p ∙ sym q;
     }

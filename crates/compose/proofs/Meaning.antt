@@ -27,8 +27,9 @@ use Rattle.plan.specs.Ranges.{bl-depth, el-depth, hdr-depth, header-fits}
 use Rattle.plan.specs.Rule7.{usable, component-fits}
 use Rattle.mapping.specs.inner.Mapped.{mapped-table}
 use Rattle.mapping.proofs.Meaning.{mapped-found, mapped-le}
-use Rattle.residual.specs.inner.Tables.{residual-table, finished-table, cut-table}
+use Rattle.residual.specs.inner.Tables.{residual-table, finished-table, cut-numbers}
 use Rattle.residual.proofs.Meaning.{raised-found, finished-found, cut-found}
+use Rattle.spans.specs.declared.Cut.{Cut}
 use Rattle.spans.specs.inner.Spans.{entry, cut-of, looked-up, added-up}
 use Rattle.rules.specs.Rules.{extent, used}
 use Rattle.rows.specs.declared.Rows.{Rows}
@@ -56,13 +57,13 @@ module _ (h : Header) (c : Component) (p : Plane) (r : Rows) (ok : usable h c �
       ∙ finished-found h (header-of h c ok) (mapped-table h c) (at base i)
       ∙ ap (λ (v : ℕ). reconstructed (hdr-depth h) v (pos 0)) (mapped-found h c ok (at base i) (g .code i s)))
 
-  pub enhanced-by-tables : (base enhancement mapped' raised' cuts : List ℕ) → CodesIn p r (2 ^ bl-depth h) base → CodesIn p r (2 ^ el-depth h) enhancement → mapped' ≡ mapped-table h c → raised' ≡ residual-table h c → cuts ≡ cut-table h → painted rows (added-up mapped' raised' cuts base enhancement) output ≡ painted rows (enhanced-at h c base enhancement) output
+  pub enhanced-by-tables : (base enhancement mapped' raised' : List ℕ) (cut : Cut) → CodesIn p r (2 ^ bl-depth h) base → CodesIn p r (2 ^ el-depth h) enhancement → mapped' ≡ mapped-table h c → raised' ≡ residual-table h c → cut ≡ cut-numbers h → painted rows (added-up mapped' raised' cut base enhancement) output ≡ painted rows (enhanced-at h c base enhancement) output
   unfolding added-up enhanced-at
-  enhanced-by-tables base enhancement mapped' raised' cuts g g' e e' f =
+  enhanced-by-tables base enhancement mapped' raised' cut g g' e e' f =
       painted-cong rows rows _ _ output (λ i b. refl)
       (λ i b s.
-      ap (λ (t : List ℕ). cut-of t (entry mapped' (at base i) + entry raised' (at enhancement i))) f
-      ∙ ap₂ (λ (v w : ℕ). cut-of (cut-table h) (v + w))
+      ap (λ (t : Cut). cut-of t (entry mapped' (at base i) + entry raised' (at enhancement i))) f
+      ∙ ap₂ (λ (v w : ℕ). cut-of (cut-numbers h) (v + w))
       (ap (λ (t : List ℕ). entry t (at base i)) e ∙ mapped-found h c ok (at base i) (g .code i s))
       (ap (λ (t : List ℕ). entry t (at enhancement i)) e' ∙ raised-found h c ok (at enhancement i) (g' .code i s))
       ∙ cut-found h (header-of h c ok) _ _ (mapped-le (bl-depth h) (h .d) (mapping c) (at base i)))

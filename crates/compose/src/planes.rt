@@ -5,13 +5,14 @@ use picture::planes_of;
 use plan::Component;
 use plan::Header;
 use plan::Plan;
-use residual::cut_table;
+use residual::cut_numbers;
 use residual::finished_table;
 use residual::residual_table;
 use rows::Rows;
 use rows::add_up_rows;
 use rows::look_up_rows;
 use rules::extent_of;
+use spans::Cut;
 ghost use mathlib.Core.Path.{_≡_};
 ghost use mathlib.Core.Bool.{true};
 ghost use Prim.Native.Nat.{_^_};
@@ -21,7 +22,7 @@ ghost use Rattle.picture.specs.Picture.{in-pairs};
 ghost use Rattle.picture.specs.inner.Planes.{in-rows, InPicture};
 ghost use Rattle.plan.specs.Ranges.{bl-depth, el-depth};
 ghost use Rattle.plan.specs.Rule7.{usable, fitting};
-ghost use Rattle.residual.specs.inner.Tables.{cut-table};
+ghost use Rattle.residual.specs.inner.Tables.{cut-numbers};
 ghost use Rattle.rules.specs.Rules.{extent};
 ghost use Rattle.rows.specs.inner.Rows.{RowsIn};
 ghost use Rattle.compose.specs.inner.Samples.{CodesIn, CodesInPicture, plain-at, enhanced-at, by-component};
@@ -40,7 +41,7 @@ fn plain_plane(h: Header, c: Component, p: Plane, r: Rows, base: &[u16], output:
 fn enhanced_plane(
     h: Header,
     c: Component,
-    cuts: &[u16; 16384],
+    cut: Cut,
     p: Plane,
     r: Rows,
     base: &[u16],
@@ -48,7 +49,7 @@ fn enhanced_plane(
     output: &mut [u16],
 )
     requires { ⌜ usable h c ≡ true ⌝ }
-    requires { ⌜ now cuts ≡ cut-table h ⌝ }
+    requires { ⌜ cut ≡ cut-numbers h ⌝ }
     requires { ⌜ CodesIn p r (2 ^ bl-depth h) (now base) ⌝ }
     requires { ⌜ CodesIn p r (2 ^ el-depth h) (now enhancement) ⌝ }
     requires { ⌜ RowsIn p r (now output) ⌝ }
@@ -56,7 +57,7 @@ fn enhanced_plane(
 {
     let mapped = mapped_table(h, c);
     let raised = residual_table(h, c);
-    add_up_rows(&mapped, &raised, cuts, p, r, base, enhancement, output);
+    add_up_rows(&mapped, &raised, cut, p, r, base, enhancement, output);
 }
 
 pub(crate) fn plain_planes(plan: Plan, r: Rows, base: &[u16], output: &mut [u16])
@@ -93,8 +94,8 @@ pub(crate) fn enhanced_planes(
     let y = plan.y;
     let cb = plan.cb;
     let cr = plan.cr;
-    let cuts = cut_table(h);
-    enhanced_plane(h, y, &cuts, p.y, r, base, enhancement, output);
-    enhanced_plane(h, cb, &cuts, p.cb, r, base, enhancement, output);
-    enhanced_plane(h, cr, &cuts, p.cr, r, base, enhancement, output);
+    let cut = cut_numbers(h);
+    enhanced_plane(h, y, cut, p.y, r, base, enhancement, output);
+    enhanced_plane(h, cb, cut, p.cb, r, base, enhancement, output);
+    enhanced_plane(h, cr, cut, p.cr, r, base, enhancement, output);
 }

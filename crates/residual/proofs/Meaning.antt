@@ -2,7 +2,7 @@
 use mathlib.Core.Path.{_≡_, _∙_}
 use mathlib.Core.Bool.{true, false}
 use mathlib.Core.List.{List}
-use Prim.Native.Nat.{ℕ, _+_, _/_, _%_, _<_, _≤_, _^_}
+use Prim.Native.Nat.{ℕ, _+_, _-_, _/_, _%_, _<_, _≤_, _^_}
 use native.Mathlib.Nat.{lt-of-lt-of-le, mod-eq-of-lt}
 use native.Mathlib.Omega.{arith}
 use lib.IntN.{ℤ, pos}
@@ -19,7 +19,8 @@ use Rattle.plan.specs.Rule7.{usable}
 use Rattle.plan.proofs.Facts.{header-kept}
 use Rattle.plan.proofs.Truths.{both}
 use Rattle.residual.specs.inner.Raising.{raised, lowered}
-use Rattle.residual.specs.inner.Tables.{residual-table, finished-code, finished-table, cut-code, cut-table}
+use Rattle.spans.specs.inner.Spans.{lower-by, cut-of}
+use Rattle.residual.specs.inner.Tables.{residual-table, finished-code, finished-table, cut-numbers}
 use Rattle.residual.proofs.Raising.{lowered-raised, sum-less}
 
 -- for whoever looks an enhancement sample up
@@ -35,28 +36,21 @@ module _ (h : Header) (u : header-fits h ≡ true) where
   unfolding finished-code
   code-finished mapped s = rw u
 
-  pub code-cut : (k : ℕ) → cut-code h k ≡ lowered (hdr-depth h) k
-  unfolding cut-code
-  code-cut k = rw u
-
   -- for whoever looks a mapped sample, or a sum, up
   pub finished-found : (mapped : List ℕ) (s : ℕ) → at (finished-table h mapped) (s % 1024) ≡ reconstructed (hdr-depth h) (at mapped (s % 1024)) (pos 0)
   unfolding finished-table
   finished-found mapped s = at-table 1024 (finished-code h mapped) (s % 1024) (omega arith) ∙ code-finished mapped (s % 1024)
 
-  pub cut-found : (v : ℕ) (r : ℤ) → v ≤ 65535 → at (cut-table h) ((v + raised (hdr-depth h) r) / 16 % 16384) ≡ reconstructed (hdr-depth h) v r
-  unfolding cut-table
+  pub cut-found : (v : ℕ) (r : ℤ) → v ≤ 65535 → cut-of (cut-numbers h) (v + raised (hdr-depth h) r) ≡ reconstructed (hdr-depth h) v r
+  unfolding cut-numbers lower-by lowered
   cut-found v r small =
-      let k : (v + raised (hdr-depth h) r) / 16 < 16384 = omega (arith, sum-less (hdr-depth h) v r small) in
-      rw (mod-eq-of-lt k, at-table 16384 (cut-code h) ((v + raised (hdr-depth h) r) / 16) k, code-cut)
-      (lowered-raised (hdr-depth h) (omega (arith, header-kept h u .out-depth)) v r small)
+      let out : hdr-depth h ≤ 12 = omega (arith, header-kept h u .out-depth) in
+      let k : (v + raised (hdr-depth h) r) / 16 < 65536 = omega (arith, sum-less (hdr-depth h) v r small) in
+      let s : 12 - hdr-depth h < 16 = omega arith in
+      rw (u, mod-eq-of-lt k, mod-eq-of-lt s) (lowered-raised (hdr-depth h) out v r small)
 
 -- a header that cannot be computed with
 module _ (h : Header) (u : header-fits h ≡ false) where
   pub not-finished : (mapped : List ℕ) (s : ℕ) → 0 ≡ finished-code h mapped s
   unfolding finished-code
   not-finished mapped s = rw u
-
-  pub no-cuts : (k : ℕ) → 0 ≡ cut-code h k
-  unfolding cut-code
-  no-cuts k = rw u

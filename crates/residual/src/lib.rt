@@ -11,8 +11,9 @@ use rounding::finish;
 use rounding::power;
 use rounding::raise;
 use rule_seven::is_usable;
+use spans::Cut;
 ghost use mathlib.Core.Path.{_≡_};
-ghost use Rattle.residual.specs.inner.Tables.{residual-table, finished-table, cut-table};
+ghost use Rattle.residual.specs.inner.Tables.{residual-table, finished-table, cut-numbers};
 
 // The raised residual of each code.
 pub fn residual_table(h: Header, c: Component) -> [u32; 1024]
@@ -52,26 +53,22 @@ pub fn finished_table(h: Header, mapped: &[u16; 1024]) -> [u16; 1024]
     table
 }
 
-// The HDR sample of each sixteenth of a sum: it depends on the depth alone, so that one table serves three components.
-// There are three parts, the same at every depth: nothing is below 2^12, the samples go up to 2^13, and the highest follows.
-// Neither loop has a branch, so that eight places are filled at once.
-pub fn cut_table(h: Header) -> [u16; 16384]
-    ensures { λ r. ⌜ r ≡ cut-table h ⌝ }
+// How an HDR sample is cut out of a sixteenth of a sum: it depends on the depth alone, so that it serves three components.
+pub fn cut_numbers(h: Header) -> Cut
+    ensures { λ r. ⌜ r ≡ cut-numbers h ⌝ }
 {
     if !header_fits(h) {
-        return [0u16; 16384];
+        return Cut {
+            shift: 0,
+            low: 0,
+            most: 0,
+        };
     }
     let out = (h.hdr as u32) + 8;
-    let zero = power(out) as u16;
-    let mut table = [0u16; 16384];
-    let mut k: u16 = 4096;
-    while k < 8192 {
-        table[k as usize] = (k >> (12 - out)) - zero;
-        k += 1;
+    let codes = power(out) as u16;
+    Cut {
+        shift: 12 - out,
+        low: codes,
+        most: codes - 1,
     }
-    while k < 16384 {
-        table[k as usize] = zero - 1;
-        k += 1;
-    }
-    table
 }

@@ -13,6 +13,7 @@ use Rattle.runs.specs.inner.Loops.{at, below}
 use Rattle.runs.proofs.Between.{in-between, between-empty, between-more}
 use Rattle.runs.proofs.Painting.{length-painted, painted-none}
 use Rattle.runs.proofs.Parts.{part, length-part, at-part, painted-part}
+use Rattle.spans.specs.declared.Cut.{Cut}
 use Rattle.spans.specs.inner.Spans.{entry, cut-of, looked-up, added-up}
 use Rattle.picture.specs.declared.Plane.{Plane}
 use Rattle.picture.specs.inner.Planes.{row-start, in-rows, InPlane}
@@ -56,12 +57,12 @@ module _ (p : Plane) (k : ℕ) (base output mid : List ℕ) (b : InPlane p k (k 
       (λ j h. in-between 0 (length (lent base)) j (omega arith) (omega (arith, lent-length p k base b)))
       (λ j h. ap (entry table) (at-part _ _ base j h))
 
-  pub added-up-row : (enhancement mapped raised cuts : List ℕ) → InPlane p k (k + 1) (length enhancement) → mid ≡ painted (below (min (length (lent base)) (length (lent enhancement)))) (added-up mapped raised cuts (lent base) (lent enhancement)) (lent output) → putMid (row-start p k) (row-start p k + p .row - row-start p k) output mid ≡ painted (between (row-start p k) (row-start p (k + 1))) (added-up mapped raised cuts base enhancement) output
+  pub added-up-row : (enhancement mapped raised : List ℕ) (cut : Cut) → InPlane p k (k + 1) (length enhancement) → mid ≡ painted (below (min (length (lent base)) (length (lent enhancement)))) (added-up mapped raised cut (lent base) (lent enhancement)) (lent output) → putMid (row-start p k) (row-start p k + p .row - row-start p k) output mid ≡ painted (between (row-start p k) (row-start p (k + 1))) (added-up mapped raised cut base enhancement) output
   unfolding added-up
-  added-up-row enhancement mapped raised cuts e =
+  added-up-row enhancement mapped raised cut e =
       row-back p k output o mid _ _ _
       (λ j h. in-between 0 (min (length (lent base)) (length (lent enhancement))) j (omega arith) (omega (arith, lent-length p k base b, lent-length p k enhancement e)))
-      (λ j h. ap₂ (λ (x y : ℕ). cut-of cuts (entry mapped x + entry raised y)) (at-part _ _ base j h) (at-part _ _ enhancement j h))
+      (λ j h. ap₂ (λ (x y : ℕ). cut-of cut (entry mapped x + entry raised y)) (at-part _ _ base j h) (at-part _ _ enhancement j h))
 
 -- ---- the loop over row pairs: painted so far
 module _ (p : Plane) (first last n : ℕ) (g : InPlane p first last n) (f : ℕ → ℕ) (l : List ℕ) where
@@ -109,9 +110,9 @@ module _ (p : Plane) (r : Rows) where
   unfolding looked-up-rows
   not-looked-up x y table k l e f h = let q : (lie p r k && lie p r l) ≡ false = sym (ap₂ _&&_ e f) ∙ h in rw q
 
-  pub not-added-up : (x y z : Bool) (mapped raised cuts k l m : List ℕ) → x ≡ lie p r k → y ≡ lie p r l → z ≡ lie p r m → (x && (y && z)) ≡ false → m ≡ added-up-rows mapped raised cuts p r k l m
+  pub not-added-up : (x y z : Bool) (mapped raised : List ℕ) (cut : Cut) (k l m : List ℕ) → x ≡ lie p r k → y ≡ lie p r l → z ≡ lie p r m → (x && (y && z)) ≡ false → m ≡ added-up-rows mapped raised cut p r k l m
   unfolding added-up-rows
-  not-added-up x y z mapped raised cuts k l m e f g h = let q : (lie p r k && (lie p r l && lie p r m)) ≡ false = sym (ap₂ _&&_ e (ap₂ _&&_ f g)) ∙ h in rw q
+  not-added-up x y z mapped raised cut k l m e f g h = let q : (lie p r k && (lie p r l && lie p r m)) ≡ false = sym (ap₂ _&&_ e (ap₂ _&&_ f g)) ∙ h in rw q
 
 -- for whoever knows that they lie within the runs
 module _ (p : Plane) (r : Rows) (base output : List ℕ) (b : RowsIn p r base) (o : RowsIn p r output) where
@@ -119,6 +120,6 @@ module _ (p : Plane) (r : Rows) (base output : List ℕ) (b : RowsIn p r base) (
   unfolding looked-up-rows
   all-looked-up table = rw (in-lies p _ _ _ b, in-lies p _ _ _ o)
 
-  pub all-added-up : (mapped raised cuts enhancement : List ℕ) → RowsIn p r enhancement → added-up-rows mapped raised cuts p r base enhancement output ≡ painted (in-rows p (between (r .first) (r .last))) (added-up mapped raised cuts base enhancement) output
+  pub all-added-up : (mapped raised : List ℕ) (cut : Cut) (enhancement : List ℕ) → RowsIn p r enhancement → added-up-rows mapped raised cut p r base enhancement output ≡ painted (in-rows p (between (r .first) (r .last))) (added-up mapped raised cut base enhancement) output
   unfolding added-up-rows
-  all-added-up mapped raised cuts enhancement e = rw (in-lies p _ _ _ b, in-lies p _ _ _ e, in-lies p _ _ _ o)
+  all-added-up mapped raised cut enhancement e = rw (in-lies p _ _ _ b, in-lies p _ _ _ e, in-lies p _ _ _ o)

@@ -1,6 +1,7 @@
 // One row pair after the other: each is a part of the runs, lent to a loop over slices.
 use crate::Rows;
 use picture::Plane;
+use spans::Cut;
 use spans::add_up;
 use spans::look_up;
 ghost use mathlib.Core.Path.{_≡_};
@@ -35,7 +36,7 @@ pub(crate) fn look_up_each(table: &[u16; 1024], p: Plane, r: Rows, base: &[u16],
 fn add_up_row(
     mapped: &[u16; 1024],
     raised: &[u32; 1024],
-    cuts: &[u16; 16384],
+    cut: Cut,
     p: Plane,
     k: usize,
     base: &[u16],
@@ -43,14 +44,14 @@ fn add_up_row(
     output: &mut [u16],
 )
     requires { ⌜ InPlane p k (k + 1) (length (now base)) × (InPlane p k (k + 1) (length (now enhancement)) × InPlane p k (k + 1) (length (now output))) ⌝ }
-    ensures { λ _. ⌜ now (output .exit) ≡ painted (between (row-start p k) (row-start p (k + 1))) (added-up (now (mapped .entry)) (now (raised .entry)) (now (cuts .entry)) (now (base .entry)) (now (enhancement .entry))) (now (output .entry)) ⌝ }
+    ensures { λ _. ⌜ now (output .exit) ≡ painted (between (row-start p k) (row-start p (k + 1))) (added-up (now (mapped .entry)) (now (raised .entry)) cut (now (base .entry)) (now (enhancement .entry))) (now (output .entry)) ⌝ }
 {
     let a = p.start + p.row * k;
     let b = a + p.row;
     add_up(
         mapped,
         raised,
-        cuts,
+        cut,
         &base[a..b],
         &enhancement[a..b],
         &mut output[a..b],
@@ -60,7 +61,7 @@ fn add_up_row(
 pub(crate) fn add_up_each(
     mapped: &[u16; 1024],
     raised: &[u32; 1024],
-    cuts: &[u16; 16384],
+    cut: Cut,
     p: Plane,
     r: Rows,
     base: &[u16],
@@ -68,12 +69,12 @@ pub(crate) fn add_up_each(
     output: &mut [u16],
 )
     requires { ⌜ RowsIn p r (now base) × (RowsIn p r (now enhancement) × RowsIn p r (now output)) ⌝ }
-    ensures { λ _. ⌜ now (output .exit) ≡ painted (in-rows p (between (r .first) (r .last))) (added-up (now (mapped .entry)) (now (raised .entry)) (now (cuts .entry)) (now (base .entry)) (now (enhancement .entry))) (now (output .entry)) ⌝ }
+    ensures { λ _. ⌜ now (output .exit) ≡ painted (in-rows p (between (r .first) (r .last))) (added-up (now (mapped .entry)) (now (raised .entry)) cut (now (base .entry)) (now (enhancement .entry))) (now (output .entry)) ⌝ }
 {
     let last = r.last;
     let mut k = r.first;
     while k < last {
-        add_up_row(mapped, raised, cuts, p, k, base, enhancement, output);
+        add_up_row(mapped, raised, cut, p, k, base, enhancement, output);
         k += 1;
     }
 }

@@ -5,6 +5,7 @@ use each::add_up_each;
 use each::look_up_each;
 use picture::Plane;
 use picture::lies;
+use spans::Cut;
 ghost use mathlib.Core.Path.{_≡_};
 ghost use Rattle.rows.specs.inner.Rows.{looked-up-rows, added-up-rows};
 
@@ -25,23 +26,23 @@ pub fn look_up_rows(table: &[u16; 1024], p: Plane, r: Rows, base: &[u16], output
     }
 }
 
-// Adds mapped samples and raised residuals up, and cuts the sums.
+// Adds mapped samples and raised residuals up, and cut the sums.
 pub fn add_up_rows(
     mapped: &[u16; 1024],
     raised: &[u32; 1024],
-    cuts: &[u16; 16384],
+    cut: Cut,
     p: Plane,
     r: Rows,
     base: &[u16],
     enhancement: &[u16],
     output: &mut [u16],
 )
-    ensures { λ _. ⌜ now (output .exit) ≡ added-up-rows (now (mapped .entry)) (now (raised .entry)) (now (cuts .entry)) p r (now (base .entry)) (now (enhancement .entry)) (now (output .entry)) ⌝ }
+    ensures { λ _. ⌜ now (output .exit) ≡ added-up-rows (now (mapped .entry)) (now (raised .entry)) cut p r (now (base .entry)) (now (enhancement .entry)) (now (output .entry)) ⌝ }
 {
     let in_base = lies(p, r.first, r.last, base.len());
     let in_enhancement = lies(p, r.first, r.last, enhancement.len());
     let in_output = lies(p, r.first, r.last, output.len());
     if in_base & (in_enhancement & in_output) {
-        add_up_each(mapped, raised, cuts, p, r, base, enhancement, output);
+        add_up_each(mapped, raised, cut, p, r, base, enhancement, output);
     }
 }

@@ -1,7 +1,7 @@
 // What a table has for a number, whatever the number: the remainder is an index of the table.
 ghost use mathlib.Core.Path.{_≡_};
 ghost use Prim.Native.Nat.{_+_, _<_, min};
-ghost use Rattle.spans.specs.inner.Spans.{entry, cut-of};
+ghost use Rattle.spans.specs.inner.Spans.{entry, sixteenth};
 
 pub(crate) fn mapped_entry(table: &[u16; 1024], code: u16) -> u16
     ensures { λ r. ⌜ r ≡ entry (now (table .entry)) code ⌝ }
@@ -31,10 +31,10 @@ pub(crate) fn raised_code(table: &[u32; 1024], code: u16) -> u32
 }
 
 // The sum is made in 64 bits, so that no table can make it wrap.
-pub(crate) fn cut_of(cuts: &[u16; 16384], v: u16, r: u32) -> u16
-    ensures { λ h. ⌜ h ≡ cut-of (now (cuts .entry)) (v + r) ⌝ }
+pub(crate) fn sixteenth_of(v: u16, r: u32) -> u16
+    ensures { λ u. ⌜ u ≡ sixteenth (v + r) ⌝ }
 {
-    cuts[(((v as u64) + (r as u64)) / 16 % 16384) as usize]
+    (((v as u64) + (r as u64)) / 16 % 65536) as u16
 }
 
 pub(crate) fn least(a: usize, b: usize) -> usize

@@ -4,17 +4,27 @@
 mod any; // samples that may be no codes
 mod codes; // samples that are codes
 mod entries; // what a table has for a sample
+mod lowering; // the second pass
 
-use any::add_up_any;
 use any::look_up_any;
-use codes::add_up_codes;
+use any::sum_any;
 use codes::look_up_codes;
+use codes::sum_codes;
+use entries::least;
+use lowering::lower_all;
 ghost use mathlib.Core.Path.{_≡_};
 ghost use Prim.Native.Nat.{min};
 ghost use lib.ListN.{length};
 ghost use Rattle.runs.specs.Runs.{painted};
 ghost use Rattle.runs.specs.inner.Loops.{below, joined};
-ghost use Rattle.spans.specs.inner.Spans.{looked-up, added-up};
+ghost use Rattle.spans.specs.inner.Spans.{looked-up, summed, added-up};
+
+// How a sample is cut out of a sixteenth of a sum: shifted, lowered, and at most so high.
+pub struct Cut {
+    pub shift: u32,
+    pub low: u16,
+    pub most: u16,
+}
 
 // Writes what the table has for each sample.
 pub fn look_up(table: &[u16; 1024], base: &[u16], output: &mut [u16])
@@ -27,23 +37,38 @@ pub fn look_up(table: &[u16; 1024], base: &[u16], output: &mut [u16])
     look_up_any(table, base, output);
 }
 
-// Writes the cut of each sum of a mapped sample and a raised residual: in one pass, without a branch or a shift that goes by
-// the depth.
-pub fn add_up(
+// The first pass of adding up.
+fn sum_up(
     mapped: &[u16; 1024],
     raised: &[u32; 1024],
-    cuts: &[u16; 16384],
     base: &[u16],
     enhancement: &[u16],
     output: &mut [u16],
 )
-    ensures { λ _. ⌜ now (output .exit) ≡ painted (below (min (length (now (base .entry))) (length (now (enhancement .entry))))) (added-up (now (mapped .entry)) (now (raised .entry)) (now (cuts .entry)) (now (base .entry)) (now (enhancement .entry))) (now (output .entry)) ⌝ }
+    ensures { λ _. ⌜ now (output .exit) ≡ painted (below (min (length (now (base .entry))) (length (now (enhancement .entry))))) (summed (now (mapped .entry)) (now (raised .entry)) (now (base .entry)) (now (enhancement .entry))) (now (output .entry)) ⌝ }
 {
     if (joined(base) | joined(enhancement)) < 1024 {
-        add_up_codes(mapped, raised, cuts, base, enhancement, output);
+        sum_codes(mapped, raised, base, enhancement, output);
         return;
     }
-    add_up_any(mapped, raised, cuts, base, enhancement, output);
+    sum_any(mapped, raised, base, enhancement, output);
+}
+
+// Writes what is cut out of each sum of a mapped sample and a raised residual. In two passes: the first goes by the tables, the
+// second has no table and no branch, so that eight samples are cut at once.
+pub fn add_up(
+    mapped: &[u16; 1024],
+    raised: &[u32; 1024],
+    cut: Cut,
+    base: &[u16],
+    enhancement: &[u16],
+    output: &mut [u16],
+)
+    ensures { λ _. ⌜ now (output .exit) ≡ painted (below (min (length (now (base .entry))) (length (now (enhancement .entry))))) (added-up (now (mapped .entry)) (now (raised .entry)) cut (now (base .entry)) (now (enhancement .entry))) (now (output .entry)) ⌝ }
+{
+    sum_up(mapped, raised, base, enhancement, output);
+    let n = least(base.len(), enhancement.len());
+    lower_all(cut, n, output);
 }
 
 // Every bit that some sample has: whether one reaches a power of two.

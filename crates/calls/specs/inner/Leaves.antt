@@ -12,7 +12,7 @@ use Rattle.rows.proofs.add_up_rows.Reads as add-up-rows-promise
 use Rattle.mapping.proofs.mapped_table.Reads as mapped-table-promise
 use Rattle.residual.proofs.residual_table.Reads as residual-table-promise
 use Rattle.residual.proofs.finished_table.Reads as finished-table-promise
-use Rattle.residual.proofs.cut_table.Reads as cut-table-promise
+use Rattle.residual.proofs.cut_numbers.Reads as cut-numbers-promise
 use Rattle.calls.specs.Settled.{OneAnswer, OneContent}
 
 pub record LeavesSettled : Type 0 where
@@ -28,4 +28,4 @@ pub record LeavesSettled : Type 0 where
   pub mapped-table : OneAnswer mapped-table-promise.Post
   pub residual-table : OneAnswer residual-table-promise.Post
   pub finished-table : OneAnswer finished-table-promise.Post
-  pub cut-table : OneAnswer cut-table-promise.Post
+  pub cut-numbers : OneAnswer cut-numbers-promise.Post

@@ -1,7 +1,7 @@
 -- The inverse quantization (5.4.3.2) and the reconstruction (5.4.3.3) as tables; zeros where the header or the component cannot be computed with.
 use mathlib.Core.Bool.{cond}
 use mathlib.Core.List.{List}
-use Prim.Native.Nat.{ℕ, _^_}
+use Prim.Native.Nat.{ℕ, _-_, _^_}
 use lib.IntN.{pos}
 use Rattle.runs.specs.inner.Loops.{at}
 use Rattle.runs.specs.inner.Tables.{table, coded}
@@ -12,7 +12,8 @@ use Rattle.plan.specs.declared.Component.{Component}
 use Rattle.plan.specs.Parameters.{quantization}
 use Rattle.plan.specs.Ranges.{el-depth, hdr-depth, header-fits}
 use Rattle.plan.specs.Rule7.{usable}
-use Rattle.residual.specs.inner.Raising.{raised, lowered}
+use Rattle.spans.specs.declared.Cut.{Cut}
+use Rattle.residual.specs.inner.Raising.{raised}
 
 -- the raised residual of every code that an enhancement layer sample can have; 0 past the codes
 unfoldable pub residual-table : Header → Component → List ℕ
@@ -27,9 +28,8 @@ finished-code h mapped s = cond (header-fits h) (reconstructed (hdr-depth h) (at
 unfoldable pub finished-table : Header → List ℕ → List ℕ
 finished-table h mapped = table 1024 (finished-code h mapped)
 
--- the HDR sample of a sixteenth of every sum of a mapped sample and a raised residual
-unfoldable pub cut-code : Header → ℕ → ℕ
-cut-code h k = cond (header-fits h) (lowered (hdr-depth h) k) 0
-
-unfoldable pub cut-table : Header → List ℕ
-cut-table h = table 16384 (cut-code h)
+-- how an HDR sample is cut out of a sixteenth of a sum
+unfoldable pub cut-numbers : Header → Cut
+cut-numbers h =
+    let out = hdr-depth h in
+    cond (header-fits h) (record { shift = 12 - out; low = 2 ^ out; most = 2 ^ out - 1 }) (record { shift = 0; low = 0; most = 0 })

@@ -4,6 +4,7 @@ use mathlib.Core.List.{List}
 use Prim.Native.Nat.{ℕ}
 use lib.ListN.{length}
 use Rattle.runs.specs.Runs.{painted, between}
+use Rattle.spans.specs.declared.Cut.{Cut}
 use Rattle.spans.specs.inner.Spans.{looked-up, added-up}
 use Rattle.picture.specs.declared.Plane.{Plane}
 use Rattle.picture.specs.inner.Planes.{in-rows, lies, InPlane}
@@ -22,8 +23,8 @@ looked-up-rows table p r base output =
     (painted (in-rows p (between (r .first) (r .last))) (looked-up table base) output)
     output
 
-unfoldable pub added-up-rows : List ℕ → List ℕ → List ℕ → Plane → Rows → List ℕ → List ℕ → List ℕ → List ℕ
-added-up-rows mapped raised cuts p r base enhancement output =
+unfoldable pub added-up-rows : List ℕ → List ℕ → Cut → Plane → Rows → List ℕ → List ℕ → List ℕ → List ℕ
+added-up-rows mapped raised cut p r base enhancement output =
     cond (lie p r base && (lie p r enhancement && lie p r output))
-    (painted (in-rows p (between (r .first) (r .last))) (added-up mapped raised cuts base enhancement) output)
+    (painted (in-rows p (between (r .first) (r .last))) (added-up mapped raised cut base enhancement) output)
     output

@@ -30,19 +30,19 @@ two-of c = search needs
 planes-are : (c : tie.After-planes-of) → c .planes-of .result ≡ planes (extent (start c .args .plan .header))
 planes-are c = let e : tie.After-extent-of = search needs in c .planes-of .ensures ∙ ap planes (e .extent-of .ensures)
 
-abbrev tabled : tie.After-enhanced-plane → tie.After-cut-table
+abbrev tabled : tie.After-enhanced-plane → tie.After-cut-numbers
 tabled c = search needs
 
 luma : tie.Need-enhanced-plane-requires
 luma c κs =
     let q : tie.After-planes-of = search needs in
-    let k : tie.After-cut-table = search needs in
+    let k : tie.After-cut-numbers = search needs in
     let s = start q in
     let e = extent (s .args .plan .header) in
     let is-it = ap (λ (x : Planes). x .y) (planes-are q) in (
       y-usable (s .args .plan) (s .pre .0),
       (
-        k .cut-table .ensures,
+        k .cut-numbers .ensures,
         (
           codes-as _ _ is-it (s .args .r) _ _ (in-luma e (s .args .r) _ _ (s .pre .1 .0)),
           (
@@ -63,7 +63,7 @@ cb c κs =
     let is-it = ap (λ (x : Planes). x .cb) (planes-are q) in (
       cb-usable (s .args .plan) (s .pre .0),
       (
-        k .cut-table .ensures,
+        k .cut-numbers .ensures,
         (
           codes-as _ _ is-it (s .args .r) _ _ (in-cb e (s .args .r) _ _ (s .pre .1 .0)),
           (
@@ -85,7 +85,7 @@ cr c κs =
     let is-it = ap (λ (x : Planes). x .cr) (planes-are q) in (
       cr-usable (s .args .plan) (s .pre .0),
       (
-        k .cut-table .ensures,
+        k .cut-numbers .ensures,
         (
           codes-as _ _ is-it (s .args .r) _ _ (in-cr e (s .args .r) _ _ (s .pre .1 .0)),
           (

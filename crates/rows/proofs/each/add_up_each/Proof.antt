@@ -14,10 +14,10 @@ use Rattle.rows.proofs.each.add_up_each.Statement.{statement}
 use Rattle.rows.proofs.each.add_up_each.Tie as tie
 
 abbrev Inv-loop : tie.InvT-loop
-Inv-loop mapped raised cuts p base enhancement output₀ last k₀ output k = (k₀ ≤ k) × ((k ≤ last) × (output ≡ painted (in-rows p (between k₀ k)) (added-up mapped raised cuts base enhancement) output₀))
+Inv-loop mapped raised cut p base enhancement output₀ last k₀ output k = (k₀ ≤ k) × ((k ≤ last) × (output ≡ painted (in-rows p (between k₀ k)) (added-up mapped raised cut base enhancement) output₀))
 
 abbrev μ-loop : tie.MeasureT-loop
-μ-loop mapped raised cuts p base enhancement output₀ last k₀ output k = last - k
+μ-loop mapped raised cut p base enhancement output₀ last k₀ output k = last - k
 
 loop-holds : tie.Need-loop-holds Inv-loop μ-loop
 loop-holds c =
