@@ -1,6 +1,6 @@
 // What a table has for a number, whatever the number: the remainder is an index of the table.
 ghost use mathlib.Core.Path.{_≡_};
-ghost use Prim.Native.Nat.{_+_, _<_, min};
+ghost use Prim.Native.Nat.{_+_, min};
 ghost use Rattle.spans.specs.inner.Spans.{entry, sixteenth};
 
 pub(crate) fn mapped_entry(table: &[u16; 1024], code: u16) -> u16
@@ -13,21 +13,6 @@ pub(crate) fn raised_entry(table: &[u32; 1024], code: u16) -> u32
     ensures { λ r. ⌜ r ≡ entry (now (table .entry)) code ⌝ }
 {
     table[(code % 1024) as usize]
-}
-
-// The same for a code, which is an index as it stands.
-pub(crate) fn mapped_code(table: &[u16; 1024], code: u16) -> u16
-    requires { ⌜ code < 1024 ⌝ }
-    ensures { λ r. ⌜ r ≡ entry (now (table .entry)) code ⌝ }
-{
-    table[code as usize]
-}
-
-pub(crate) fn raised_code(table: &[u32; 1024], code: u16) -> u32
-    requires { ⌜ code < 1024 ⌝ }
-    ensures { λ r. ⌜ r ≡ entry (now (table .entry)) code ⌝ }
-{
-    table[code as usize]
 }
 
 // The sum is made in 64 bits, so that no table can make it wrap.

@@ -1,16 +1,12 @@
 // Loops over whole slices: samples looked up in a table, samples added up by tables, and the bits of a run joined.
-// A table has a place for every index that a loop can ask for, so that nothing is asked of the samples; whether all are codes
-// is seen from their bits, in a pass that costs less than the remainders would.
-mod any; // samples that may be no codes
-mod codes; // samples that are codes
+// A table has a place for every index that a loop can ask for, so that nothing is asked of the samples.
 mod entries; // what a table has for a sample
 mod lowering; // the second pass
 
-use any::look_up_any;
-use any::sum_any;
-use codes::look_up_codes;
-use codes::sum_codes;
 use entries::least;
+use entries::mapped_entry;
+use entries::raised_entry;
+use entries::sixteenth_of;
 use lowering::lower_all;
 ghost use mathlib.Core.Path.{_≡_};
 ghost use Prim.Native.Nat.{min};
@@ -30,11 +26,14 @@ pub struct Cut {
 pub fn look_up(table: &[u16; 1024], base: &[u16], output: &mut [u16])
     ensures { λ _. ⌜ now (output .exit) ≡ painted (below (length (now (base .entry)))) (looked-up (now (table .entry)) (now (base .entry))) (now (output .entry)) ⌝ }
 {
-    if joined(base) < 1024 {
-        look_up_codes(table, base, output);
-        return;
+    let n = least(base.len(), output.len());
+    let mut i = 0;
+    while i < n {
+        let s = base[i];
+        let v = mapped_entry(table, s);
+        output[i] = v;
+        i += 1;
     }
-    look_up_any(table, base, output);
 }
 
 // The first pass of adding up.
@@ -47,11 +46,15 @@ fn sum_up(
 )
     ensures { λ _. ⌜ now (output .exit) ≡ painted (below (min (length (now (base .entry))) (length (now (enhancement .entry))))) (summed (now (mapped .entry)) (now (raised .entry)) (now (base .entry)) (now (enhancement .entry))) (now (output .entry)) ⌝ }
 {
-    if (joined(base) | joined(enhancement)) < 1024 {
-        sum_codes(mapped, raised, base, enhancement, output);
-        return;
+    let n = least(least(base.len(), enhancement.len()), output.len());
+    let mut i = 0;
+    while i < n {
+        let s = base[i];
+        let e = enhancement[i];
+        let h = sixteenth_of(mapped_entry(mapped, s), raised_entry(raised, e));
+        output[i] = h;
+        i += 1;
     }
-    sum_any(mapped, raised, base, enhancement, output);
 }
 
 // Writes what is cut out of each sum of a mapped sample and a raised residual. In two passes: the first goes by the tables, the

@@ -1,7 +1,6 @@
 -- What the loops over a run of samples write at an index. An index of a table is taken below its size, so any sample is one.
 use mathlib.Core.List.{List}
-use Prim.Native.Nat.{ℕ, _<_, _+_, _-_, _/_, _%_, _^_, min}
-use lib.ListN.{length}
+use Prim.Native.Nat.{ℕ, _+_, _-_, _/_, _%_, _^_, min}
 use Rattle.runs.specs.inner.Loops.{at}
 use Rattle.spans.specs.declared.Cut.{Cut}
 
@@ -19,10 +18,6 @@ lower-by c u = min (u / 2 ^ (c .shift % 16) - c .low) (c .most)
 
 abbrev pub cut-of : Cut → ℕ → ℕ
 cut-of c sum = lower-by c (sixteenth sum)
-
--- every sample of a run is a code
-abbrev pub Codes : List ℕ → Type 0
-Codes run = (i : ℕ) → i < length run → at run i < 1024
 
 -- by a table of finished samples
 unfoldable pub looked-up : List ℕ → List ℕ → ℕ → ℕ
