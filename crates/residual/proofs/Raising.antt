@@ -48,16 +48,12 @@ module _ (out : ℕ) (h : out ≤ 12) where
   under : (c k : ℕ) → k < c * 4096 → k / 2 ^ (12 - out) < c * 2 ^ out
   under c k b = div-lt-iff-lt-mul (pow-pos (12 - out)) .1 (rw (mul-assoc, size) b)
 
-  -- the three parts of a table of cuts
-  pub lowered-zero : (k : ℕ) → k < 4096 → lowered out k ≡ 0
+  -- a cut below its range and above it
+  lowered-zero : (k : ℕ) → k < 4096 → lowered out k ≡ 0
   unfolding lowered
   lowered-zero k b = omega (arith, under 1 k (omega arith))
 
-  pub lowered-ramp : (k : ℕ) → 4096 ≤ k → k < 8192 → (2 ^ out ≤ k / 2 ^ (12 - out)) × (k / 2 ^ (12 - out) - 2 ^ out ≡ lowered out k)
-  unfolding lowered
-  lowered-ramp k a b = (omega (arith, from 1 k (omega arith)), omega (arith, from 1 k (omega arith), under 2 k (omega arith), pow-pos out))
-
-  pub lowered-most : (k : ℕ) → 8192 ≤ k → 2 ^ out - 1 ≡ lowered out k
+  lowered-most : (k : ℕ) → 8192 ≤ k → 2 ^ out - 1 ≡ lowered out k
   unfolding lowered
   lowered-most k a = omega (arith, from 2 k (omega arith))
 
