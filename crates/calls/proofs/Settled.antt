@@ -49,12 +49,8 @@ pub settled : Settled
 settled =
     record {
       passes = λ κs a r r' s s' p q. p ∙ sym q;
-      is-usable = λ κs a r r' s s' p q. p ∙ sym q;
-      header-fits = λ κs a r r' s s' p q. p ∙ sym q;
       empty = λ κs a r r' s s' p q. p .0 ∙ sym (q .0);
       read = λ κs a r r' s s' p q. p .0 ∙ sym (q .0);
-      picture-size = λ κs a r r' s s' p q. p ∙ sym q;
-      refusal-of = λ κs a r r' s s' p q. p ∙ sym q;
       run-length = λ κs a r r' s s' p q. p ∙ sym q;
       composed-number = λ κs a r r' s s' p q. p ∙ sym q;
       compose-row-pairs = λ κs a r r' s s' p q. one-composed r r' (p .0 ∙ sym (q .0));
@@ -88,4 +84,12 @@ leaves-settled =
       residual-table = λ κs a r r' s s' p q. p ∙ sym q;
       finished-table = λ κs a r r' s s' p q. p ∙ sym q;
       cut-numbers = λ κs a r r' s s' p q. p ∙ sym q;
+      is-usable = λ κs a r r' s s' p q. p ∙ sym q;
+      header-fits = λ κs a r r' s s' p q. p ∙ sym q;
+      picture-size = λ κs a r r' s s' p q. p ∙ sym q;
+      refusal-of = λ κs a r r' s s' p q. p ∙ sym q;
+      quantizes = λ κs a r r' s s' p q. p ∙ sym q;
+      least = λ κs a r r' s s' p q. p ∙ sym q;
+      plain-planes = λ κs a r r' s s' p q. p ∙ sym q;
+      enhanced-planes = λ κs a r r' s s' p q. p ∙ sym q;
     }

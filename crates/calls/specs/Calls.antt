@@ -4,17 +4,14 @@ use mathlib.Core.List.{List}
 use Prim.Native.Nat.{ℕ}
 use contract.Lifetimes.{Lfts}
 use borrow.Fn.Kinds.{endedOf}
-use borrow.Fn.World.{ArgsD, ResD}
 use denote.Triple.Clauses.{AtExit}
 use denote.Ref.{now}
 use Rattle.refusals.specs.Outcomes.{Outcome}
 use Rattle.plan.specs.declared.Plan.{Plan}
 use Rattle.jobs.specs.Jobs.{Job, job, says}
 use Rattle.jobs.specs.Opening.{opened-says}
-use Rattle.jobs.proofs.open_picture as opening
 use Rattle.jobs.proofs.open_picture.Kinds as opening-kinds
 use Rattle.jobs.proofs.open_picture.Reads as opening-reads
-use Rattle.jobs.proofs.compose_job as composing
 use Rattle.jobs.proofs.compose_job.Kinds as composing-kinds
 use Rattle.jobs.proofs.compose_job.Reads as composing-reads
 
@@ -35,13 +32,16 @@ output-in-job κs s = let pictures = s .1 .1 .1 .1 .1 in now (pictures .1 .1 .0)
 abbrev pub marks-in-job : (κs : Lfts 4) → JobLeft κs → List ℕ
 marks-in-job κs s = let pictures = s .1 .1 .1 .1 .1 in now (pictures .1 .1 .1 .0)
 
--- a call of open_picture
-pub record OpenCall : Type 0 where
-  pub lifetimes : Lfts 1
-  pub handed : ArgsD opening.signature lifetimes
-  pub answered : ResD opening.signature lifetimes
-  pub left : OpenLeft lifetimes
-  pub kept : opening-reads.Post lifetimes handed answered left
+-- a call that has ended as it promises: by its lifetimes, what it was handed, what it answered and what it left
+pub record Ended {K : Type 0} {Handed Answered Left : K → Type 0} (Post : (κs : K) → Handed κs → Answered κs → Left κs → Type 0) : Type 0 where
+  pub lifetimes : K
+  pub handed : Handed lifetimes
+  pub answered : Answered lifetimes
+  pub left : Left lifetimes
+  pub kept : Post lifetimes handed answered left
+
+abbrev pub OpenCall : Type 0
+OpenCall = Ended opening-reads.Post
 
 module _ (c : OpenCall) where
   abbrev pub opening-plan : Plan
@@ -59,13 +59,8 @@ module _ (c : OpenCall) where
   abbrev pub opening-said : Outcome
   opening-said = opened-says (c .answered)
 
--- a call of compose_job
-pub record JobCall : Type 0 where
-  pub lifetimes : Lfts 4
-  pub handed : ArgsD composing.signature lifetimes
-  pub answered : ResD composing.signature lifetimes
-  pub left : JobLeft lifetimes
-  pub kept : composing-reads.Post lifetimes handed answered left
+abbrev pub JobCall : Type 0
+JobCall = Ended composing-reads.Post
 
 module _ (c : JobCall) where
   abbrev pub job-of : Job

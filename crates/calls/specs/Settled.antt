@@ -1,16 +1,12 @@
--- For every input each public call's promise leaves one answer, and one content of each run that it was lent: two outcomes
--- that the promise allows are equal. A promise is the call's generated `Post`, made of its own contract.
+-- For every input the promise of each call that a user makes leaves one answer, and one content of each run that it was lent: two
+-- outcomes that the promise allows are equal. A promise is the call's generated `Post`, made of its own contract.
 use mathlib.Core.Path.{_≡_}
 use mathlib.Core.List.{List}
 use Prim.Native.Nat.{ℕ}
 use denote.Ref.{now}
 use Rattle.rule_seven.proofs.passes.Reads as passes-promise
-use Rattle.rule_seven.proofs.is_usable.Reads as is-usable-promise
-use Rattle.plan.proofs.ranges.header_fits.Reads as header-fits-promise
 use Rattle.plan.proofs.empty.Reads as empty-promise
 use Rattle.block.proofs.read.Reads as read-promise
-use Rattle.picture.proofs.picture_size.Reads as picture-size-promise
-use Rattle.rules.proofs.refusal_of.Reads as refusal-of-promise
 use Rattle.speed.proofs.speed_job.Reads as speed-job-promise
 use Rattle.compose.proofs.picture_size.Reads as run-length-promise
 use Rattle.compose.proofs.number.Reads as composed-number-promise
@@ -30,15 +26,11 @@ module _ {K : Type 0} {Handed Answered Left : K → Type 0} where
   abbrev pub OneContent : ((κs : K) → Handed κs → Answered κs → Left κs → Type 0) → ((κs : K) → Left κs → List ℕ) → Type 0
   OneContent Post lent = (κs : K) (a : Handed κs) (r r' : Answered κs) (s s' : Left κs) → Post κs a r s → Post κs a r' s' → lent κs s ≡ lent κs s'
 
--- the answer of each public call, and the content of each run that one writes
+-- the answer of each call that a user makes, and the content of each run that one writes
 pub record Settled : Type 0 where
   pub passes : OneAnswer passes-promise.Post
-  pub is-usable : OneAnswer is-usable-promise.Post
-  pub header-fits : OneAnswer header-fits-promise.Post
   pub empty : OneAnswer empty-promise.Post
   pub read : OneAnswer read-promise.Post
-  pub picture-size : OneAnswer picture-size-promise.Post
-  pub refusal-of : OneAnswer refusal-of-promise.Post
   pub run-length : OneAnswer run-length-promise.Post
   pub composed-number : OneAnswer composed-number-promise.Post
   pub compose-row-pairs : OneAnswer compose-row-pairs-promise.Post

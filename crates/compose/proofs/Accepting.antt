@@ -17,7 +17,7 @@ use Rattle.rules.specs.Rules.{Given, extent, names, used, refusal}
 use Rattle.rules.proofs.Accepting.{Accepted, accepted, in-picture}
 use Rattle.rows.specs.declared.Rows.{Rows}
 use Rattle.compose.specs.Composing.{composed-at, output-after, answer}
-use Rattle.compose.specs.inner.Samples.{CodesInPicture}
+use Rattle.compose.proofs.Samples.{CodesInPicture}
 
 abbrev Ends : Given → List ℕ → Outcome → List ℕ → Type 0
 Ends g output o after = (o ≡ answer g (length output)) × (after ≡ output-after g output)

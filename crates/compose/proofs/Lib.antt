@@ -1,2 +1,3 @@
-pub mod Meaning
-pub mod Accepting
+mod Samples
+mod Meaning
+mod Accepting

@@ -1,6 +1,4 @@
 // The composing process over pictures: row pairs of a base picture, perhaps with an enhancement picture, to HDR samples.
-mod planes; // plane by plane, by tables that are made once a call
-
 use picture::picture_size as size_of;
 use plan::Header;
 use plan::Plan;

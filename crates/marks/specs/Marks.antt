@@ -1,10 +1,7 @@
 -- The marks of a picture, one for each row pair: 0 waits, any other value is done; the composer writes 1.
-use mathlib.Core.Bool.{Bool, true, _&&_, cond}
-use mathlib.Core.List.{List}
+use mathlib.Core.Bool.{Bool, true}
 use Prim.Native.Nat.{ℕ}
-use lib.Dec.{leb, eqb}
-use lib.ListN.{length}
-use Rattle.runs.specs.Runs.{painted, between}
+use lib.Dec.{eqb}
 
 abbrev pub every-pair : ℕ → Bool
 every-pair k = true
@@ -17,7 +14,3 @@ done k = 1
 
 abbrev pub is-waiting : ℕ → Bool
 is-waiting mark = eqb mark 0
-
--- the marks from `first` up to `last` are set; none is where they are not all there
-unfoldable pub marked : ℕ → ℕ → List ℕ → List ℕ
-marked first last marks = cond (leb first last && leb last (length marks)) (painted (between first last) done marks) marks

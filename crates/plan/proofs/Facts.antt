@@ -1,6 +1,6 @@
 -- What a plan that passes rule 7 gives whoever computes with it. Assumes nothing.
 use mathlib.Core.Path.{_≡_, refl, sym}
-use mathlib.Core.Bool.{Bool, true, false, cond}
+use mathlib.Core.Bool.{Bool, true, false, _&&_, cond}
 use Prim.Native.Nat.{ℕ, _+_, _*_, _^_, _≤_, _<_}
 use native.Mathlib.Nat.{le-of-lt, pow-succ'}
 use native.Mathlib.Numerals.{add-one}
@@ -12,11 +12,12 @@ use lib.Pow.{pow-pos}
 use borrow.Author.Tests.{eqb-true, leb-true, ltb-true}
 use Rattle.plan.specs.declared.Header.{Header}
 use Rattle.plan.specs.declared.Piece.{Piece}
+use Rattle.plan.specs.declared.Nlq.{Nlq}
 use Rattle.plan.specs.declared.Component.{Component}
 use Rattle.plan.specs.declared.Plan.{Plan}
-use Rattle.plan.specs.Ranges.{most-columns, most-pairs, format-tests, format-fits, size-tests, size-fits, header-fits, unsigned-fits}
+use Rattle.plan.specs.Ranges.{most-columns, most-pairs, format-tests, format-fits, size-tests, size-fits, header-fits, count-fits, unsigned-fits}
 use Rattle.plan.specs.Rule7.{pivots-used, pieces-used, no-piece, row-fits, piece-fits, piece-empty, pivots-fit, pieces-fit, nlq-tests, nlq-fits, component-fits, usable, fitting, no-plan}
-use Rattle.plan.specs.inner.Facts.{HeaderFacts, ComponentFacts, Arrays, Sized}
+use Rattle.plan.specs.inner.Facts.{HeaderFacts, ComponentFacts, NlqFacts, Arrays, Sized}
 use Rattle.plan.proofs.Truths.{both, each, inside, either-le, every-at, place-below}
 use Rattle.plan.proofs.Anywhere.{anywhere}
 use Rattle.plan.proofs.Coefficients.{row-le, row-zero}
@@ -60,12 +61,11 @@ unsigned-le : (h : Header) (v : ℕ) → unsigned-fits h v ≡ true → v ≤ 2 
 unsigned-le h v e = rw (add-one, pow-succ') (le-of-lt (ltb-true v _ e))
 
 pub component-facts : (h : Header) (c : Component) → Arrays c → component-fits h c ≡ true → ComponentFacts h c
-unfolding component-fits pivots-fit pieces-fit nlq-fits
+unfolding component-fits pivots-fit pieces-fit
 component-facts h c s e =
     let n = both _ _ e in
     let v = both (pivots-fit h c) _ (n .1) in
     let p = both (pieces-fit h c) (nlq-fits h (c .nlq)) (v .1) in
-    let q = each (nlq-tests h (c .nlq)) (p .1) in
     let piece : (i : ℕ) → PieceFacts h (getD (c .pieces) i no-piece) =
     anywhere (PieceFacts h) (c .pieces) no-piece (s .pieces)
     (record { order = omega arith; coefficient = λ i. omega arith; unused = λ z. refl })
@@ -76,11 +76,22 @@ component-facts h c s e =
       order = λ i. piece i .order;
       coefficient = λ i. piece i .coefficient;
       unused = λ i. piece i .unused;
-      offset = ltb-true _ _ (q .0);
-      maximum = unsigned-le h _ (q .1 .0);
-      slope = unsigned-le h _ (q .1 .1 .0);
-      threshold = unsigned-le h _ (q .1 .1 .1 .0);
     }
+
+pub nlq-facts : (h : Header) (q : Nlq) → nlq-fits h q ≡ true → NlqFacts h q
+unfolding nlq-fits
+nlq-facts h q e =
+    let t = each (nlq-tests h q) e in
+    record { maximum = unsigned-le h _ (t .1 .0); slope = unsigned-le h _ (t .1 .1 .0); threshold = unsigned-le h _ (t .1 .1 .1 .0) }
+
+-- what is asked of a component is asked of its inverse quantization
+pub nlq-of : (h : Header) (c : Component) → usable h c ≡ true → (header-fits h && nlq-fits h (c .nlq)) ≡ true
+unfolding component-fits
+nlq-of h c e =
+    let u = both (header-fits h) _ e in
+    let n = both (count-fits (c .n)) _ (u .1) in
+    let v = both (pivots-fit h c) _ (n .1) in
+    rw (u .0, both (pieces-fit h c) (nlq-fits h (c .nlq)) (v .1) .1)
 
 abbrev Fits : Plan → Component → Type 0
 Fits p c = component-fits (p .header) c ≡ true

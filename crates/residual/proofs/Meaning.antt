@@ -1,35 +1,42 @@
 -- What stands in the three tables. Assumes nothing.
 use mathlib.Core.Path.{_≡_, _∙_}
-use mathlib.Core.Bool.{true, false}
+use mathlib.Core.Bool.{true, false, _&&_}
 use mathlib.Core.List.{List}
 use Prim.Native.Nat.{ℕ, _+_, _-_, _/_, _%_, _<_, _≤_, _^_}
 use native.Mathlib.Nat.{lt-of-lt-of-le, mod-eq-of-lt}
 use native.Mathlib.Omega.{arith}
-use lib.IntN.{ℤ, pos}
+use lib.IntN.{ℤ, pos, natAbs}
 use lib.Pow.{pow-mono}
 use Rattle.runs.specs.inner.Loops.{at}
 use Rattle.runs.proofs.Tables.{at-table, coded-in}
 use Rattle.standard.specs.Residual.{residual}
 use Rattle.standard.specs.Reconstruction.{reconstructed}
+use Rattle.standard.proofs.Residuals.{residual-le}
 use Rattle.plan.specs.declared.Header.{Header}
-use Rattle.plan.specs.declared.Component.{Component}
+use Rattle.plan.specs.declared.Nlq.{Nlq}
 use Rattle.plan.specs.Parameters.{quantization}
 use Rattle.plan.specs.Ranges.{el-depth, hdr-depth, header-fits}
-use Rattle.plan.specs.Rule7.{usable}
-use Rattle.plan.proofs.Facts.{header-kept}
+use Rattle.plan.specs.Rule7.{nlq-fits}
+use Rattle.plan.proofs.Facts.{header-kept, nlq-facts}
 use Rattle.plan.proofs.Truths.{both}
 use Rattle.residual.specs.inner.Raising.{raised, lowered}
-use Rattle.spans.specs.inner.Spans.{lower-by, cut-of}
+use Rattle.sums.specs.inner.Sums.{lower-by, cut-of}
 use Rattle.residual.specs.inner.Tables.{residual-table, finished-code, finished-table, cut-numbers}
-use Rattle.residual.proofs.Raising.{lowered-raised, sum-less}
+use Rattle.residual.proofs.Raising.{lowered-raised, raised-less}
 
 -- for whoever looks an enhancement sample up
-pub raised-found : (h : Header) (c : Component) → usable h c ≡ true → (e : ℕ) → e < 2 ^ el-depth h → at (residual-table h c) (e % 1024) ≡ raised (hdr-depth h) (residual (el-depth h) (h .d) (quantization (c .nlq)) e)
+pub raised-found : (h : Header) (q : Nlq) → (header-fits h && nlq-fits h q) ≡ true → (e : ℕ) → e < 2 ^ el-depth h → at (residual-table h q) (e % 1024) ≡ raised (hdr-depth h) (residual (el-depth h) (h .d) (quantization q) e)
 unfolding residual-table
-raised-found h c u e b =
+raised-found h q u e b =
     let f = header-kept h (both (header-fits h) _ u .0) in
     let k : e < 1024 = lt-of-lt-of-le b (pow-mono {j = 10} (omega (arith, f .base-depth, f .same-depth))) in
     rw (mod-eq-of-lt k, at-table 1024 _ e k) (coded-in (2 ^ el-depth h) _ e u b)
+
+-- and what it is
+pub residual-small : (h : Header) (q : Nlq) → (header-fits h && nlq-fits h q) ≡ true → (e : ℕ) → natAbs (residual (el-depth h) (h .d) (quantization q) e) ≤ 2 ^ 17
+residual-small h q u e =
+    let f = header-kept h (both (header-fits h) _ u .0) in
+    residual-le (el-depth h) (h .d) (quantization q) (omega (arith, f .base-depth, f .same-depth)) (f .deep) (nlq-facts h q (both (header-fits h) _ u .1) .maximum) e
 
 module _ (h : Header) (u : header-fits h ≡ true) where
   pub code-finished : (mapped : List ℕ) (s : ℕ) → finished-code h mapped s ≡ reconstructed (hdr-depth h) (at mapped s) (pos 0)
@@ -41,11 +48,11 @@ module _ (h : Header) (u : header-fits h ≡ true) where
   unfolding finished-table
   finished-found mapped s = at-table 1024 (finished-code h mapped) (s % 1024) (omega arith) ∙ code-finished mapped (s % 1024)
 
-  pub cut-found : (v : ℕ) (r : ℤ) → v ≤ 65535 → cut-of (cut-numbers h) (v + raised (hdr-depth h) r) ≡ reconstructed (hdr-depth h) v r
+  pub cut-found : (v : ℕ) (r : ℤ) → v ≤ 65535 → natAbs r ≤ 2 ^ 17 → cut-of (cut-numbers h) (v + raised (hdr-depth h) r) ≡ reconstructed (hdr-depth h) v r
   unfolding cut-numbers lower-by lowered
-  cut-found v r small =
+  cut-found v r small low =
       let out : hdr-depth h ≤ 12 = omega (arith, header-kept h u .out-depth) in
-      let k : (v + raised (hdr-depth h) r) / 16 < 65536 = omega (arith, sum-less (hdr-depth h) v r small) in
+      let k : (v + raised (hdr-depth h) r) / 16 < 65536 = omega (arith, raised-less (hdr-depth h) r low) in
       let s : 12 - hdr-depth h < 16 = omega arith in
       rw (u, mod-eq-of-lt k, mod-eq-of-lt s) (lowered-raised (hdr-depth h) out v r small)
 

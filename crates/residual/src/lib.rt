@@ -1,31 +1,30 @@
 // The residual (5.4.3.2) and the reconstruction (5.4.3.3), as tables of what every code, mapped sample and sum comes to.
-// Each is zeros where the header or the component cannot be computed with.
+// Each is zeros where the header or the quantization cannot be computed with.
 mod inverse; // the inverse quantization of one enhancement layer sample
 mod rounding; // the reconstruction of one HDR sample
 
 use inverse::residual_of;
-use plan::Component;
 use plan::Header;
+use plan::Nlq;
 use plan::ranges::header_fits;
 use rounding::finish;
 use rounding::power;
 use rounding::raise;
-use rule_seven::is_usable;
-use spans::Cut;
+use rule_seven::quantizes;
+use sums::Cut;
 ghost use mathlib.Core.Path.{_≡_};
 ghost use Rattle.residual.specs.inner.Tables.{residual-table, finished-table, cut-numbers};
 
 // The raised residual of each code.
-pub fn residual_table(h: Header, c: Component) -> [u32; 1024]
-    ensures { λ r. ⌜ r ≡ residual-table h c ⌝ }
+pub fn residual_table(h: Header, q: Nlq) -> [u32; 1024]
+    ensures { λ r. ⌜ r ≡ residual-table h q ⌝ }
 {
-    if !is_usable(h, c) {
+    if !quantizes(h, q) {
         return [0u32; 1024];
     }
     let el = (h.el as u32) + 8;
     let d = h.d as u32;
     let out = (h.hdr as u32) + 8;
-    let q = c.nlq;
     let codes = power(el) as u16;
     let mut table = [0u32; 1024];
     let mut e: u16 = 0;
@@ -68,7 +67,7 @@ pub fn cut_numbers(h: Header) -> Cut
     let codes = power(out) as u16;
     Cut {
         shift: 12 - out,
-        low: codes,
+        low: 2 * codes,
         most: codes - 1,
     }
 }

@@ -12,19 +12,12 @@ pub(crate) fn power(k: u32) -> u64
     1u64 << k
 }
 
-// The residual, 2^16 and the rounding term higher, cut to 0 .. 2^17: unsigned, so that a sum with a mapped sample needs no sign.
+// The residual, 2^17 and the rounding term higher: unsigned, so that a sum with a mapped sample needs no sign.
 pub(crate) fn raise(out: u32, r: i64) -> u32
     requires { ⌜ (out ≤ 12) × (natAbs r ≤ 2 ^ 17) ⌝ }
     ensures { λ u. ⌜ u ≡ raised out r ⌝ }
 {
-    let u = r + (65536 + (power(15 - out) as i64));
-    if u < 0 {
-        return 0;
-    }
-    if u > 131072 {
-        return 131072;
-    }
-    u as u32
+    (r + (131072 + (power(15 - out) as i64))) as u32
 }
 
 // The HDR sample of a mapped sample without residual. It is cut before it is rounded, in 16 bits throughout, so that a loop

@@ -13,8 +13,9 @@ use Rattle.runs.specs.inner.Loops.{at, below}
 use Rattle.runs.proofs.Between.{in-between, between-empty, between-more}
 use Rattle.runs.proofs.Painting.{length-painted, painted-none}
 use Rattle.runs.proofs.Parts.{part, length-part, at-part, painted-part}
-use Rattle.spans.specs.declared.Cut.{Cut}
-use Rattle.spans.specs.inner.Spans.{entry, cut-of, looked-up, added-up}
+use Rattle.sums.specs.declared.Cut.{Cut}
+use Rattle.spans.specs.inner.Spans.{entry, looked-up}
+use Rattle.sums.specs.inner.Sums.{cut-of, added-up}
 use Rattle.picture.specs.declared.Plane.{Plane}
 use Rattle.picture.specs.inner.Planes.{row-start, in-rows, InPlane}
 use Rattle.picture.proofs.Rows.{rows-more, rows-between}

@@ -1,14 +1,15 @@
 // One row pair after the other: each is a part of the runs, lent to a loop over slices.
 use crate::Rows;
 use picture::Plane;
-use spans::Cut;
-use spans::add_up;
 use spans::look_up;
+use sums::Cut;
+use sums::add_up;
 ghost use mathlib.Core.Path.{_≡_};
 ghost use Prim.Native.Nat.{_+_};
 ghost use lib.ListN.{length};
 ghost use Rattle.runs.specs.Runs.{painted, between};
-ghost use Rattle.spans.specs.inner.Spans.{looked-up, added-up};
+ghost use Rattle.spans.specs.inner.Spans.{looked-up};
+ghost use Rattle.sums.specs.inner.Sums.{added-up};
 ghost use Rattle.picture.specs.inner.Planes.{row-start, in-rows, InPlane};
 ghost use Rattle.rows.specs.inner.Rows.{RowsIn};
 

@@ -5,7 +5,7 @@ use each::add_up_each;
 use each::look_up_each;
 use picture::Plane;
 use picture::lies;
-use spans::Cut;
+use sums::Cut;
 ghost use mathlib.Core.Path.{_≡_};
 ghost use Rattle.rows.specs.inner.Rows.{looked-up-rows, added-up-rows};
 

@@ -5,10 +5,14 @@ mod ranges; // the ranges of a component's numbers
 use places::component_fits;
 use plan::Component;
 use plan::Header;
+use plan::Nlq;
 use plan::Plan;
 use plan::ranges::header_fits;
+use ranges::nlq_fits;
 ghost use mathlib.Core.Path.{_≡_};
-ghost use Rattle.plan.specs.Rule7.{fitting, usable};
+ghost use mathlib.Core.Bool.{_&&_};
+ghost use Rattle.plan.specs.Ranges.{header-fits};
+ghost use Rattle.plan.specs.Rule7.{nlq-fits, fitting, usable};
 
 // Rule 7: whether a plan that is handed in keeps every range and has 0 in every unused place.
 pub fn passes(plan: Plan) -> bool
@@ -33,4 +37,14 @@ pub fn is_usable(h: Header, c: Component) -> bool
         return false;
     }
     component_fits(h, c)
+}
+
+// The same of its inverse quantization, which asks nothing of the pieces.
+pub fn quantizes(h: Header, q: Nlq) -> bool
+    ensures { λ r. ⌜ r ≡ (header-fits h && nlq-fits h q) ⌝ }
+{
+    if !header_fits(h) {
+        return false;
+    }
+    nlq_fits(h, q)
 }

@@ -10,9 +10,9 @@ use plan::limits::PIECES;
 use plan::limits::PIVOTS;
 use plan::limits::ROW;
 ghost use mathlib.Core.Path.{_≡_};
-ghost use mathlib.Core.Bool.{cond};
+ghost use mathlib.Core.Bool.{true, cond};
 ghost use lib.Dec.{eqb};
-ghost use Rattle.plan.specs.Ranges.{pivot-fits, coefficient-fits};
+ghost use Rattle.plan.specs.Ranges.{count-fits, pivot-fits, coefficient-fits};
 ghost use Rattle.plan.specs.Rule7.{is-zero, row-fits, piece-fits, piece-empty, pivots-fit, pieces-fit, component-fits};
 ghost use Rattle.plan.specs.inner.Facts.{HeaderFacts};
 
@@ -52,17 +52,6 @@ fn piece_empty(h: Header, q: Piece) -> bool
     (q.idc == 0) & ((q.order == 0) & empty)
 }
 
-fn piece_place(h: Header, used: bool, q: Piece) -> bool
-    requires { ⌜ HeaderFacts h ⌝ }
-    ensures { λ r. ⌜ r ≡ cond used (piece-fits h q) (piece-empty h q) ⌝ }
-{
-    if used {
-        piece_fits(h, q)
-    } else {
-        piece_empty(h, q)
-    }
-}
-
 fn pivot_place(h: Header, used: bool, v: u16) -> bool
     requires { ⌜ HeaderFacts h ⌝ }
     ensures { λ r. ⌜ r ≡ cond used (pivot-fits h v) (eqb v 0) ⌝ }
@@ -85,17 +74,25 @@ fn pivots_fit(h: Header, c: Component) -> bool
     fit
 }
 
+// Pieces that are used, and those that are not, are two loops whose turns go by n: one loop over all places would be unrolled,
+// and the array taken apart byte by byte.
 fn pieces_fit(h: Header, c: Component) -> bool
     requires { ⌜ HeaderFacts h ⌝ }
+    requires { ⌜ count-fits (c .n) ≡ true ⌝ }
     ensures { λ r. ⌜ r ≡ pieces-fit h c ⌝ }
 {
     let used = (c.n as usize) + 1;
     let pieces = c.pieces;
     let mut fit = true;
     let mut p: usize = 0;
+    while p < used {
+        let q = pieces[p];
+        fit = fit & piece_fits(h, q);
+        p += 1;
+    }
     while p < PIECES {
         let q = pieces[p];
-        fit = fit & piece_place(h, p < used, q);
+        fit = fit & piece_empty(h, q);
         p += 1;
     }
     fit
@@ -105,6 +102,9 @@ pub(crate) fn component_fits(h: Header, c: Component) -> bool
     requires { ⌜ HeaderFacts h ⌝ }
     ensures { λ r. ⌜ r ≡ component-fits h c ⌝ }
 {
+    if c.n > MOST_N {
+        return false;
+    }
     let q = c.nlq;
-    (c.n <= MOST_N) & (pivots_fit(h, c) & (pieces_fit(h, c) & nlq_fits(h, q)))
+    pivots_fit(h, c) & (pieces_fit(h, c) & nlq_fits(h, q))
 }

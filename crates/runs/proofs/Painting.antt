@@ -95,23 +95,47 @@ painted-more a b f l v h k q =
     go i m (yes e) = rw e (getD-set-same (painted (between a b) f l) b v 0 (subst (λ (n : ℕ). b < n) (sym (length-painted (between a b) f l)) k) ∙ q ∙ sym (ap (λ (u : Bool). cond u (f b) (getD l b 0)) (in-between a (b + 1) b h (omega arith))))
     go i m (no n) = getD-set-other (painted (between a b) f l) b i v 0 n ∙ at-painted (between a b) f l i 0 m ∙ ap (λ (u : Bool). cond u (f i) (getD l i 0)) (sym (between-more a b i h ∙ ap (λ (u : Bool). between a b i || u) (ne-eqb i b n) ∙ or-false (between a b i)))
 
--- a run that a loop paints from the front has its values below i
-pub record PaintedTo (f : ℕ → ℕ) (l : List ℕ) (i : ℕ) (run : List ℕ) : Type 0 where
-  pub is : run ≡ painted (below i) f l
+-- a run that a loop has painted from a to i
+pub record PaintedFrom (a : ℕ) (f : ℕ → ℕ) (l : List ℕ) (i : ℕ) (run : List ℕ) : Type 0 where
+  pub from : a ≤ i
+  pub is : run ≡ painted (between a i) f l
   pub long : length run ≡ length l
 
-pub paint-none : (f : ℕ → ℕ) (l : List ℕ) → PaintedTo f l 0 l
-paint-none f l = record { is = sym (painted-none _ f l (λ i b. between-empty 0 i)); long = refl }
+pub paint-none : (a : ℕ) (f : ℕ → ℕ) (l : List ℕ) → PaintedFrom a f l a l
+paint-none a f l = record { from = le-refl a; is = sym (painted-none _ f l (λ i b. between-empty a i)); long = refl }
 
-pub paint-more : {f : ℕ → ℕ} {l : List ℕ} {i : ℕ} {run : List ℕ} {v : ℕ} → PaintedTo f l i run → i < length l → v ≡ f i → PaintedTo f l (i + 1) (set run i v)
-paint-more {f} {l} {i} {run} {v} h b e =
+pub paint-more : {a : ℕ} {f : ℕ → ℕ} {l : List ℕ} {i : ℕ} {run : List ℕ} {v : ℕ} → PaintedFrom a f l i run → i < length l → v ≡ f i → PaintedFrom a f l (i + 1) (set run i v)
+paint-more {a} {f} {l} {i} {run} {v} h b e =
     record {
-      is = ap (λ r. set r i v) (h .is) ∙ painted-more 0 i f l v (omega arith) b e;
+      from = omega (arith, h .from);
+      is = ap (λ r. set r i v) (h .is) ∙ painted-more a i f l v (h .from) b e;
       long = length-set run i v ∙ h .long;
     }
 
+pub paint-two : {a : ℕ} {f : ℕ → ℕ} {l : List ℕ} {i : ℕ} {run : List ℕ} {v w : ℕ} → PaintedFrom a f l i run → i + 2 ≤ length l → v ≡ f i → w ≡ f (i + 1) → PaintedFrom a f l (i + 2) (set (set run i v) (i + 1) w)
+paint-two {i = i} h long p q = let two : i + 2 ≡ i + 1 + 1 = omega arith in rw two (paint-more (paint-more h (omega arith) p) (omega arith) q)
+
+pub paint-four : {a : ℕ} {f : ℕ → ℕ} {l : List ℕ} {i : ℕ} {run : List ℕ} {t u v w : ℕ} → PaintedFrom a f l i run → i + 4 ≤ length l → t ≡ f i → u ≡ f (i + 1) → v ≡ f (i + 2) → w ≡ f (i + 3) → PaintedFrom a f l (i + 4) (set (set (set (set run i t) (i + 1) u) (i + 2) v) (i + 3) w)
+paint-four {i = i} h long p q r s =
+    let three : i + 3 ≡ i + 2 + 1 = omega arith in
+    let four : i + 4 ≡ i + 2 + 2 = omega arith in
+    rw (three, four) (paint-two (paint-two h (omega arith) p q) (omega arith) r (rw (sym three) s))
+
+-- a second loop goes on where the first ended
+pub paint-on : {a b c : ℕ} {f : ℕ → ℕ} {l mid run : List ℕ} → PaintedFrom a f l b mid → PaintedFrom b f mid c run → PaintedFrom a f l c run
+paint-on {a} {b} {c} {f} {l} g h =
+    record {
+      from = omega (arith, g .from, h .from);
+      is = h .is ∙ ap (painted (between b c) f) (g .is) ∙ painted-on a b c f l (g .from) (h .from);
+      long = h .long ∙ g .long;
+    }
+
+-- to the end of a part
+pub paint-part : {a : ℕ} {f : ℕ → ℕ} {l : List ℕ} {i : ℕ} {run : List ℕ} (n : ℕ) → PaintedFrom a f l i run → i ≡ n → run ≡ painted (between a n) f l
+paint-part {a} {f} {l} n h e = h .is ∙ ap (λ (k : ℕ). painted (between a k) f l) e
+
 -- to the end of the run, or as far as n
-pub paint-all : {f : ℕ → ℕ} {l : List ℕ} {i : ℕ} {run : List ℕ} (n : ℕ) → PaintedTo f l i run → i ≡ min n (length l) → run ≡ painted (below n) f l
+pub paint-all : {f : ℕ → ℕ} {l : List ℕ} {i : ℕ} {run : List ℕ} (n : ℕ) → PaintedFrom 0 f l i run → i ≡ min n (length l) → run ≡ painted (below n) f l
 paint-all {f} {l} {i} n h e =
     h .is
     ∙ painted-cong (below i) (below n) f f l

@@ -1,77 +1,45 @@
-// Loops over whole slices: samples looked up in a table, samples added up by tables, and the bits of a run joined.
-// A table has a place for every index that a loop can ask for, so that nothing is asked of the samples.
-mod entries; // what a table has for a sample
-mod lowering; // the second pass
-
-use entries::least;
-use entries::mapped_entry;
-use entries::raised_entry;
-use entries::sixteenth_of;
-use lowering::lower_all;
+// Loops over a whole slice: samples looked up in a table, and the bits of a run joined. A table has a place for every index that
+// a loop can ask for, so that nothing is asked of the samples.
 ghost use mathlib.Core.Path.{_≡_};
-ghost use Prim.Native.Nat.{min};
+ghost use Prim.Native.Nat.{_<_, min};
 ghost use lib.ListN.{length};
 ghost use Rattle.runs.specs.Runs.{painted};
 ghost use Rattle.runs.specs.inner.Loops.{below, joined};
-ghost use Rattle.spans.specs.inner.Spans.{looked-up, summed, added-up};
+ghost use Rattle.spans.specs.inner.Spans.{looked-up};
 
-// How a sample is cut out of a sixteenth of a sum: shifted, lowered, and at most so high.
-pub struct Cut {
-    pub shift: u32,
-    pub low: u16,
-    pub most: u16,
+// The lesser of two lengths.
+pub fn least(a: usize, b: usize) -> usize
+    ensures { λ r. ⌜ r ≡ min a b ⌝ }
+{
+    if a < b { a } else { b }
 }
 
-// Writes what the table has for each sample.
+fn looked_up(table: &[u16; 1024], base: &[u16], i: usize) -> u16
+    requires { ⌜ i < length (now base) ⌝ }
+    ensures { λ r. ⌜ r ≡ looked-up (now (table .entry)) (now (base .entry)) i ⌝ }
+{
+    let s = base[i];
+    let v = table[(s % 1024) as usize];
+    v
+}
+
+// Writes what the table has for each sample, four samples a turn: a loop of one sample waits for its own counting.
 pub fn look_up(table: &[u16; 1024], base: &[u16], output: &mut [u16])
     ensures { λ _. ⌜ now (output .exit) ≡ painted (below (length (now (base .entry)))) (looked-up (now (table .entry)) (now (base .entry))) (now (output .entry)) ⌝ }
 {
     let n = least(base.len(), output.len());
     let mut i = 0;
+    while 4 <= n - i {
+        output[i] = looked_up(table, base, i);
+        output[i + 1] = looked_up(table, base, i + 1);
+        output[i + 2] = looked_up(table, base, i + 2);
+        output[i + 3] = looked_up(table, base, i + 3);
+        i += 4;
+    }
     while i < n {
-        let s = base[i];
-        let v = mapped_entry(table, s);
-        output[i] = v;
+        output[i] = looked_up(table, base, i);
         i += 1;
     }
-}
-
-// The first pass of adding up.
-fn sum_up(
-    mapped: &[u16; 1024],
-    raised: &[u32; 1024],
-    base: &[u16],
-    enhancement: &[u16],
-    output: &mut [u16],
-)
-    ensures { λ _. ⌜ now (output .exit) ≡ painted (below (min (length (now (base .entry))) (length (now (enhancement .entry))))) (summed (now (mapped .entry)) (now (raised .entry)) (now (base .entry)) (now (enhancement .entry))) (now (output .entry)) ⌝ }
-{
-    let n = least(least(base.len(), enhancement.len()), output.len());
-    let mut i = 0;
-    while i < n {
-        let s = base[i];
-        let e = enhancement[i];
-        let h = sixteenth_of(mapped_entry(mapped, s), raised_entry(raised, e));
-        output[i] = h;
-        i += 1;
-    }
-}
-
-// Writes what is cut out of each sum of a mapped sample and a raised residual. In two passes: the first goes by the tables, the
-// second has no table and no branch, so that eight samples are cut at once.
-pub fn add_up(
-    mapped: &[u16; 1024],
-    raised: &[u32; 1024],
-    cut: Cut,
-    base: &[u16],
-    enhancement: &[u16],
-    output: &mut [u16],
-)
-    ensures { λ _. ⌜ now (output .exit) ≡ painted (below (min (length (now (base .entry))) (length (now (enhancement .entry))))) (added-up (now (mapped .entry)) (now (raised .entry)) cut (now (base .entry)) (now (enhancement .entry))) (now (output .entry)) ⌝ }
-{
-    sum_up(mapped, raised, base, enhancement, output);
-    let n = least(base.len(), enhancement.len());
-    lower_all(cut, n, output);
 }
 
 // Every bit that some sample has: whether one reaches a power of two.

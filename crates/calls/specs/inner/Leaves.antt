@@ -5,7 +5,7 @@ use Rattle.rules.proofs.extent_of.Reads as extent-of-promise
 use Rattle.rules.proofs.is_used.Reads as is-used-promise
 use Rattle.spans.proofs.joined.Reads as joined-promise
 use Rattle.spans.proofs.look_up.Reads as look-up-promise
-use Rattle.spans.proofs.add_up.Reads as add-up-promise
+use Rattle.sums.proofs.add_up.Reads as add-up-promise
 use Rattle.picture.proofs.lies.Reads as lies-promise
 use Rattle.rows.proofs.look_up_rows.Reads as look-up-rows-promise
 use Rattle.rows.proofs.add_up_rows.Reads as add-up-rows-promise
@@ -13,6 +13,14 @@ use Rattle.mapping.proofs.mapped_table.Reads as mapped-table-promise
 use Rattle.residual.proofs.residual_table.Reads as residual-table-promise
 use Rattle.residual.proofs.finished_table.Reads as finished-table-promise
 use Rattle.residual.proofs.cut_numbers.Reads as cut-numbers-promise
+use Rattle.rule_seven.proofs.is_usable.Reads as is-usable-promise
+use Rattle.plan.proofs.ranges.header_fits.Reads as header-fits-promise
+use Rattle.picture.proofs.picture_size.Reads as picture-size-promise
+use Rattle.rules.proofs.refusal_of.Reads as refusal-of-promise
+use Rattle.rule_seven.proofs.quantizes.Reads as quantizes-promise
+use Rattle.spans.proofs.least.Reads as least-promise
+use Rattle.planes.proofs.plain_planes.Reads as plain-planes-promise
+use Rattle.planes.proofs.enhanced_planes.Reads as enhanced-planes-promise
 use Rattle.calls.specs.Settled.{OneAnswer, OneContent}
 
 pub record LeavesSettled : Type 0 where
@@ -29,3 +37,11 @@ pub record LeavesSettled : Type 0 where
   pub residual-table : OneAnswer residual-table-promise.Post
   pub finished-table : OneAnswer finished-table-promise.Post
   pub cut-numbers : OneAnswer cut-numbers-promise.Post
+  pub is-usable : OneAnswer is-usable-promise.Post
+  pub header-fits : OneAnswer header-fits-promise.Post
+  pub picture-size : OneAnswer picture-size-promise.Post
+  pub refusal-of : OneAnswer refusal-of-promise.Post
+  pub quantizes : OneAnswer quantizes-promise.Post
+  pub least : OneAnswer least-promise.Post
+  pub plain-planes : OneContent plain-planes-promise.Post (λ κs s. now (s .1 .1 .1 .0))
+  pub enhanced-planes : OneContent enhanced-planes-promise.Post (λ κs s. now (s .1 .1 .1 .1 .0))

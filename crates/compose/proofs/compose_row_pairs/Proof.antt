@@ -1,4 +1,4 @@
--- `compose::compose_row_pairs` meets its contract: a refusal writes nothing, and acceptance gives all that the planes ask. Assumes nothing.
+-- `compose::compose_row_pairs` meets its contract: a refusal writes nothing, and acceptance gives what the planes mean. Assumes nothing.
 use mathlib.Core.Path.{_≡_, sym, _∙_}
 use mathlib.Core.Bool.{true, false}
 use lib.ListN.{length}
@@ -6,8 +6,8 @@ use native.Mathlib.Omega.{arith}
 use borrow.Author.Needs.{needs}
 use Rattle.plan.proofs.Facts.{header-facts}
 use Rattle.rules.specs.Rules.{Given, given, refusal}
-use Rattle.compose.proofs.Meaning.{plain-composed, enhanced-composed}
-use Rattle.compose.proofs.Accepting.{refused, written, passed, in-output, in-base, in-enhancement}
+use Rattle.compose.proofs.Meaning.{plain-painted, enhanced-painted, plain-composed, enhanced-composed}
+use Rattle.compose.proofs.Accepting.{refused, written, rows-of, passed, in-output, in-base, in-enhancement}
 use Rattle.compose.proofs.compose_row_pairs.Statement.{statement}
 use Rattle.compose.proofs.compose_row_pairs.Tie as tie
 
@@ -35,14 +35,6 @@ add-is-used c =
     let p = passed _ _ (none e) in
     omega (arith, p .sizes .pairs, header-facts _ (p .fits) .few-pairs)
 
-enhanced-planes-requires : tie.Need-enhanced-planes-requires
-enhanced-planes-requires c κs =
-    let e : tie.Else1 = search needs in
-    let u : tie.After-is-used = search needs in
-    let t : tie.Then2 = search needs in
-    let z = none e in
-    (passed _ _ z .fits, (in-base _ _ z, (in-enhancement _ _ z (sym (u .is-used .ensures) ∙ t .if2 .taken), in-output _ _ z)))
-
 returns-2 : tie.Need-returns-2
 returns-2 c =
     let p : tie.After-enhanced-planes = search needs in
@@ -50,14 +42,11 @@ returns-2 c =
     let u : tie.After-is-used = search needs in
     let t : tie.Then2 = search needs in
     let s = start (numbered e) in
-    written (asked s) (s .args .output .now) _ _ (none e) (p .enhanced-planes .ensures)
-    (λ i. enhanced-composed (s .args .plan) (s .args .base .now) (s .args .enhancement .now) i (sym (u .is-used .ensures) ∙ t .if2 .taken))
-
-plain-planes-requires : tie.Need-plain-planes-requires
-plain-planes-requires c κs =
-    let e : tie.Else1 = search needs in
     let z = none e in
-    (passed _ _ z .fits, (in-base _ _ z, in-output _ _ z))
+    let on = sym (u .is-used .ensures) ∙ t .if2 .taken in
+    written (asked s) (s .args .output .now) _ _ z
+    (p .enhanced-planes .ensures ∙ enhanced-painted (s .args .plan) (rows-of (asked s)) (s .args .output .now) (in-output _ _ z) (passed _ _ z .fits) (s .args .base .now) (in-base _ _ z) (s .args .enhancement .now) (in-enhancement _ _ z on))
+    (λ i. enhanced-composed (s .args .plan) (s .args .base .now) (s .args .enhancement .now) i on)
 
 returns-3 : tie.Need-returns-3
 returns-3 c =
@@ -66,7 +55,9 @@ returns-3 c =
     let u : tie.After-is-used = search needs in
     let l : tie.Else2 = search needs in
     let s = start (numbered e) in
-    written (asked s) (s .args .output .now) _ _ (none e) (p .plain-planes .ensures)
+    let z = none e in
+    written (asked s) (s .args .output .now) _ _ z
+    (p .plain-planes .ensures ∙ plain-painted (s .args .plan) (rows-of (asked s)) (s .args .output .now) (in-output _ _ z) (passed _ _ z .fits) (s .args .base .now) (in-base _ _ z))
     (λ i. plain-composed (s .args .plan) (s .args .base .now) (s .args .enhancement .now) i (sym (u .is-used .ensures) ∙ l .if2 .left))
 
 pub compose-row-pairs-spec : {M : Type 1} → statement M
@@ -77,9 +68,9 @@ compose-row-pairs-spec =
     returns
     add-is-used
     (λ c κs. search needs)
-    enhanced-planes-requires
+    (λ c κs. search needs)
     (λ c. search needs)
     returns-2
-    plain-planes-requires
+    (λ c κs. search needs)
     (λ c. search needs)
     returns-3)

@@ -4,6 +4,7 @@ use Prim.Native.Nat.{ℕ, _+_, _*_, _^_, _<_, _≤_}
 use lib.IntN.{pos, natAbs}
 use lib.ListN.{length, getD}
 use Rattle.plan.specs.declared.Header.{Header}
+use Rattle.plan.specs.declared.Nlq.{Nlq}
 use Rattle.plan.specs.declared.Component.{Component}
 use Rattle.plan.specs.declared.Plan.{Plan}
 use Rattle.plan.specs.Ranges.{most-columns, most-pairs, most-n, bl-depth, el-depth}
@@ -39,7 +40,9 @@ pub record ComponentFacts (h : Header) (c : Component) : Type 0 where
   pub order : (p : ℕ) → getD (c .pieces) p no-piece .order ≤ 1
   pub coefficient : (p i : ℕ) → natAbs (getD (getD (c .pieces) p no-piece .row) i (pos 0)) ≤ 64 * 2 ^ h .d
   pub unused : (p : ℕ) → getD (c .pieces) p no-piece .order ≡ 0 → getD (getD (c .pieces) p no-piece .row) 2 (pos 0) ≡ pos 0
-  pub offset : c .nlq .offset < 2 ^ el-depth h
-  pub maximum : c .nlq .maximum ≤ 2 ^ (h .d + 1)
-  pub slope : c .nlq .slope ≤ 2 ^ (h .d + 1)
-  pub threshold : c .nlq .threshold ≤ 2 ^ (h .d + 1)
+
+-- the numbers of a component's inverse quantization
+pub record NlqFacts (h : Header) (q : Nlq) : Type 0 where
+  pub maximum : q .maximum ≤ 2 ^ (h .d + 1)
+  pub slope : q .slope ≤ 2 ^ (h .d + 1)
+  pub threshold : q .threshold ≤ 2 ^ (h .d + 1)

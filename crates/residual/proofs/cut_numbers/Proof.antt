@@ -1,7 +1,7 @@
 -- `residual::cut_numbers` meets its contract. Assumes nothing.
 use mathlib.Core.Path.{_≡_, sym, _∙_}
 use mathlib.Core.Bool.{true}
-use Prim.Native.Nat.{_+_, _^_, _≤_}
+use Prim.Native.Nat.{_≤_}
 use native.Mathlib.Omega.{arith}
 use lib.Pow.{pow-pos, pow-mono}
 use borrow.Author.Needs.{needs}
@@ -25,17 +25,10 @@ returns : tie.Need-returns
 unfolding cut-numbers
 returns c = rw (sym (c .before .header-fits .ensures) ∙ not-true _ (c .if1 .taken))
 
-cast-codes : tie.Need-cast-codes
-cast-codes c =
+codes : (p : tie.After-power) → (1 ≤ p .power .result) × (p .power .result ≤ 4096)
+codes p =
     let e : tie.Else1 = search needs in
-    let p : tie.After-power = search needs in
-    omega (arith, p .power .ensures, pow-mono {i = hdr-depth (start e .args .h)} {j = 12} (shallow e))
-
-sub-t8 : tie.Need-sub-t8
-sub-t8 c =
-    let e : tie.Else1 = search needs in
-    let p : tie.After-power = search needs in
-    omega (arith, p .power .ensures, pow-pos (hdr-depth (start e .args .h)))
+    (omega (arith, p .power .ensures, pow-pos (hdr-depth (start e .args .h))), omega (arith, p .power .ensures, pow-mono {i = hdr-depth (start e .args .h)} {j = 12} (shallow e)))
 
 returns-2 : tie.Need-returns-2
 unfolding cut-numbers
@@ -53,7 +46,8 @@ cut-numbers-spec =
     (λ c. search needs)
     (λ c. search needs)
     (λ c κs. let e : tie.Else1 = search needs in omega (arith, shallow e))
-    cast-codes
+    (λ c. omega (arith, codes c))
     (λ c. let e : tie.Else1 = search needs in omega (arith, shallow e))
-    sub-t8
+    (λ c. let p : tie.After-power = search needs in omega (arith, codes p))
+    (λ c. let p : tie.After-power = search needs in omega (arith, codes p))
     returns-2)

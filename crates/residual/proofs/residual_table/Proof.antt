@@ -1,6 +1,6 @@
 -- `residual::residual_table` meets its contract: zeros, or a loop in which the codes passed have their raised residuals. Assumes nothing.
 use mathlib.Core.Path.{_≡_, refl, sym, ap, _∙_}
-use mathlib.Core.Bool.{true}
+use mathlib.Core.Bool.{true, _&&_}
 use borrow.Author.Needs.{needs, sfits-of}
 use borrow.Author.Tests.{not-true, not-false}
 use Prim.Native.Nat.{_+_, _-_, _<_, _≤_}
@@ -13,10 +13,9 @@ use Rattle.runs.proofs.Tables.{Filled, fill-none, fill-more, fill-codes, no-cod
 use Rattle.standard.specs.Residual.{residual}
 use Rattle.plan.specs.Parameters.{quantization}
 use Rattle.plan.specs.Ranges.{header-fits}
-use Rattle.plan.specs.Rule7.{usable}
-use Rattle.plan.specs.inner.Facts.{HeaderFacts, ComponentFacts}
-use Rattle.plan.proofs.Facts.{header-kept, component-facts}
-use Rattle.plan.proofs.Sizes.{arrays}
+use Rattle.plan.specs.Rule7.{nlq-fits}
+use Rattle.plan.specs.inner.Facts.{HeaderFacts, NlqFacts}
+use Rattle.plan.proofs.Facts.{header-kept, nlq-facts}
 use Rattle.plan.proofs.Truths.{both}
 use Rattle.residual.specs.inner.Raising.{raised}
 use Rattle.residual.specs.inner.Tables.{residual-table}
@@ -24,23 +23,23 @@ use Rattle.residual.proofs.residual_table.Statement.{statement}
 use Rattle.residual.proofs.residual_table.Tie as tie
 
 abbrev Inv-loop : tie.InvT-loop
-Inv-loop el d out q codes table₀ e₀ table e = (e ≤ codes) × Filled 1024 (λ j. raised out (residual el d (quantization q) j)) e table
+Inv-loop q el d out codes table₀ e₀ table e = (e ≤ codes) × Filled 1024 (λ j. raised out (residual el d (quantization q) j)) e table
 
 abbrev μ-loop : tie.MeasureT-loop
-μ-loop el d out q codes table₀ e₀ table e = codes - e
+μ-loop q el d out codes table₀ e₀ table e = codes - e
 
--- what the test of the component gives
+-- what the test of the quantization gives
 abbrev start : tie.Else1 Inv-loop μ-loop → tie.Start Inv-loop μ-loop
 start e = e .before .before
 
-passed : (st : tie.Else1 Inv-loop μ-loop) → usable (start st .args .h) (start st .args .c) ≡ true
-passed st = sym (st .before .is-usable .ensures) ∙ not-false _ (st .if1 .left)
+passed : (st : tie.Else1 Inv-loop μ-loop) → (header-fits (start st .args .h) && nlq-fits (start st .args .h) (start st .args .q)) ≡ true
+passed st = sym (st .before .quantizes .ensures) ∙ not-false _ (st .if1 .left)
 
 header : (st : tie.Else1 Inv-loop μ-loop) → HeaderFacts (start st .args .h)
 header st = header-kept (start st .args .h) (both (header-fits (start st .args .h)) _ (passed st) .0)
 
-component : (st : tie.Else1 Inv-loop μ-loop) → ComponentFacts (start st .args .h) (start st .args .c)
-component st = component-facts (start st .args .h) (start st .args .c) (arrays (start st .args .c) _ (start st .good .1 .0)) (both (header-fits (start st .args .h)) _ (passed st) .1)
+numbers : (st : tie.Else1 Inv-loop μ-loop) → NlqFacts (start st .args .h) (start st .args .q)
+numbers st = nlq-facts (start st .args .h) (start st .args .q) (both (header-fits (start st .args .h)) _ (passed st) .1)
 
 shallow : (st : tie.Else1 Inv-loop μ-loop) → (start st .args .h .el + 8 ≤ 10) × (start st .args .h .hdr + 8 ≤ 12)
 shallow st = (omega (arith, header st .base-depth, header st .same-depth), omega (arith, header st .out-depth))
@@ -59,7 +58,7 @@ inside c =
 residual-of-requires : tie.Need-residual-of-requires Inv-loop μ-loop
 residual-of-requires c κs =
     let st : tie.Else1 Inv-loop μ-loop = search needs in
-    let f = component st in
+    let f = numbers st in
     record {
       shallow = shallow st .0;
       fraction = header st .shallow;
@@ -88,7 +87,7 @@ loop-again c =
 
 returns : tie.Need-returns Inv-loop μ-loop
 unfolding residual-table
-returns c = no-codes 1024 _ _ (sym (c .before .is-usable .ensures) ∙ not-true _ (c .if1 .taken))
+returns c = no-codes 1024 _ _ (sym (c .before .quantizes .ensures) ∙ not-true _ (c .if1 .taken))
 
 returns-2 : tie.Need-returns-2 Inv-loop μ-loop
 unfolding residual-table

@@ -1,25 +1,25 @@
--- The inverse quantization (5.4.3.2) and the reconstruction (5.4.3.3) as tables; zeros where the header or the component cannot be computed with.
-use mathlib.Core.Bool.{cond}
+-- The inverse quantization (5.4.3.2) and the reconstruction (5.4.3.3) as tables; zeros where the header or the quantization cannot be computed with.
+use mathlib.Core.Bool.{_&&_, cond}
 use mathlib.Core.List.{List}
-use Prim.Native.Nat.{ℕ, _-_, _^_}
+use Prim.Native.Nat.{ℕ, _-_, _*_, _^_}
 use lib.IntN.{pos}
 use Rattle.runs.specs.inner.Loops.{at}
 use Rattle.runs.specs.inner.Tables.{table, coded}
 use Rattle.standard.specs.Residual.{residual}
 use Rattle.standard.specs.Reconstruction.{reconstructed}
 use Rattle.plan.specs.declared.Header.{Header}
-use Rattle.plan.specs.declared.Component.{Component}
+use Rattle.plan.specs.declared.Nlq.{Nlq}
 use Rattle.plan.specs.Parameters.{quantization}
 use Rattle.plan.specs.Ranges.{el-depth, hdr-depth, header-fits}
-use Rattle.plan.specs.Rule7.{usable}
-use Rattle.spans.specs.declared.Cut.{Cut}
+use Rattle.plan.specs.Rule7.{nlq-fits}
+use Rattle.sums.specs.declared.Cut.{Cut}
 use Rattle.residual.specs.inner.Raising.{raised}
 
 -- the raised residual of every code that an enhancement layer sample can have; 0 past the codes
-unfoldable pub residual-table : Header → Component → List ℕ
-residual-table h c =
+unfoldable pub residual-table : Header → Nlq → List ℕ
+residual-table h q =
     table 1024
-    (coded (usable h c) (2 ^ el-depth h) (λ e. raised (hdr-depth h) (residual (el-depth h) (h .d) (quantization (c .nlq)) e)))
+    (coded (header-fits h && nlq-fits h q) (2 ^ el-depth h) (λ e. raised (hdr-depth h) (residual (el-depth h) (h .d) (quantization q) e)))
 
 -- the HDR sample of every mapped sample of a table, without residual
 unfoldable pub finished-code : Header → List ℕ → ℕ → ℕ
@@ -32,4 +32,4 @@ finished-table h mapped = table 1024 (finished-code h mapped)
 unfoldable pub cut-numbers : Header → Cut
 cut-numbers h =
     let out = hdr-depth h in
-    cond (header-fits h) (record { shift = 12 - out; low = 2 ^ out; most = 2 ^ out - 1 }) (record { shift = 0; low = 0; most = 0 })
+    cond (header-fits h) (record { shift = 12 - out; low = 2 * 2 ^ out; most = 2 ^ out - 1 }) (record { shift = 0; low = 0; most = 0 })

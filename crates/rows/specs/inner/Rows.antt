@@ -4,8 +4,9 @@ use mathlib.Core.List.{List}
 use Prim.Native.Nat.{ℕ}
 use lib.ListN.{length}
 use Rattle.runs.specs.Runs.{painted, between}
-use Rattle.spans.specs.declared.Cut.{Cut}
-use Rattle.spans.specs.inner.Spans.{looked-up, added-up}
+use Rattle.sums.specs.declared.Cut.{Cut}
+use Rattle.spans.specs.inner.Spans.{looked-up}
+use Rattle.sums.specs.inner.Sums.{added-up}
 use Rattle.picture.specs.declared.Plane.{Plane}
 use Rattle.picture.specs.inner.Planes.{in-rows, lies, InPlane}
 use Rattle.rows.specs.declared.Rows.{Rows}

@@ -2,27 +2,42 @@
 use borrow.Author.Needs.{needs}
 use Prim.Native.Nat.{_-_, _≤_}
 use native.Mathlib.Omega.{arith}
-use Rattle.runs.proofs.Painting.{PaintedTo, paint-none, paint-more, paint-all}
+use lib.ListN.{length-set}
+use Rattle.runs.proofs.Painting.{PaintedFrom, paint-none, paint-more, paint-four, paint-on, paint-all}
 use Rattle.spans.specs.inner.Spans.{looked-up}
 use Rattle.spans.proofs.look_up.Statement.{statement}
 use Rattle.spans.proofs.look_up.Tie as tie
 
 abbrev Inv-loop : tie.InvT-loop
-Inv-loop table base output₀ n i₀ output i = (i ≤ n) × PaintedTo (looked-up table base) output₀ i output
+Inv-loop table base output₀ n i₀ output i = (i ≤ n) × PaintedFrom i₀ (looked-up table base) output₀ i output
 
 abbrev μ-loop : tie.MeasureT-loop
 μ-loop table base output₀ n i₀ output i = n - i
 
-loop-again : tie.Need-loop-again Inv-loop μ-loop
-unfolding looked-up
-loop-again c =
-    let lp : tie.At-loop Inv-loop μ-loop = search needs in
-    (omega arith, paint-more (lp .loop .inv .1) (omega arith) (c .mapped-entry .ensures))
+abbrev Inv-loop2 : tie.InvT-loop2
+Inv-loop2 table base output₀ n i₀ output i = (i ≤ n) × PaintedFrom i₀ (looked-up table base) output₀ i output
 
-returns : tie.Need-returns Inv-loop μ-loop
+abbrev μ-loop2 : tie.MeasureT-loop2
+μ-loop2 table base output₀ n i₀ output i = n - i
+
+loop-again : tie.Need-loop-again Inv-loop μ-loop Inv-loop2 μ-loop2
+loop-again c =
+    let lp : tie.At-loop Inv-loop μ-loop Inv-loop2 μ-loop2 = search needs in
+    let t : tie.After-looked-up Inv-loop μ-loop Inv-loop2 μ-loop2 = search needs in
+    let u : tie.After-looked-up2 Inv-loop μ-loop Inv-loop2 μ-loop2 = search needs in
+    let v : tie.After-looked-up3 Inv-loop μ-loop Inv-loop2 μ-loop2 = search needs in
+    (omega arith, paint-four (lp .loop .inv .1) (omega arith) (t .looked-up .ensures) (u .looked-up2 .ensures) (v .looked-up3 .ensures) (c .looked-up4 .ensures))
+
+loop2-again : tie.Need-loop2-again Inv-loop μ-loop Inv-loop2 μ-loop2
+loop2-again c =
+    let lp : tie.At-loop2 Inv-loop μ-loop Inv-loop2 μ-loop2 = search needs in
+    (omega arith, paint-more (lp .loop2 .inv .1) (omega arith) (c .looked-up5 .ensures))
+
+returns : tie.Need-returns Inv-loop μ-loop Inv-loop2 μ-loop2
 returns c =
-    let lp : tie.At-loop Inv-loop μ-loop = search needs in
-    paint-all _ (lp .loop .inv .1) (omega arith)
+    let lp : tie.At-loop Inv-loop μ-loop Inv-loop2 μ-loop2 = search needs in
+    let rest : tie.At-loop2 Inv-loop μ-loop Inv-loop2 μ-loop2 = search needs in
+    paint-all _ (paint-on (lp .loop .inv .1) (rest .loop2 .inv .1)) (omega arith)
 
 pub look-up-spec : {M : Type 1} → statement M
 look-up-spec =
@@ -30,15 +45,38 @@ look-up-spec =
     (tie.spec
     Inv-loop
     μ-loop
+    Inv-loop2
+    μ-loop2
     (λ c κs. search needs)
-    (λ c. (omega arith, paint-none _ _))
+    (λ c. (omega arith, paint-none _ _ _))
+    (λ c. omega arith)
+    (λ c κs. omega arith)
+    (λ c. search needs)
     (λ c. omega arith)
     (λ c. omega arith)
-    (λ c κs. search needs)
+    (λ c κs. omega arith)
     (λ c. omega arith)
+    (λ c. search needs)
+    (λ c. rw length-set (omega arith))
     (λ c. omega arith)
+    (λ c κs. omega arith)
+    (λ c. omega arith)
+    (λ c. search needs)
+    (λ c. rw (length-set, length-set) (omega arith))
+    (λ c. omega arith)
+    (λ c κs. omega arith)
+    (λ c. omega arith)
+    (λ c. search needs)
+    (λ c. rw (length-set, length-set, length-set) (omega arith))
     (λ c. omega arith)
     (λ c. omega arith)
     loop-again
+    (λ c. let lp : tie.At-loop Inv-loop μ-loop Inv-loop2 μ-loop2 = search needs in (lp .loop .inv .0, paint-none _ _ _))
+    (λ c κs. omega arith)
+    (λ c. search needs)
     (λ c. omega arith)
+    (λ c. omega arith)
+    (λ c. omega arith)
+    loop2-again
+    (λ c. search needs)
     returns)

@@ -7,7 +7,7 @@ use lib.ListN.{length}
 use borrow.Author.Needs.{needs}
 use Rattle.runs.specs.Runs.{painted, between}
 use Rattle.runs.proofs.Painting.{length-painted}
-use Rattle.spans.specs.inner.Spans.{added-up}
+use Rattle.sums.specs.inner.Sums.{added-up}
 use Rattle.picture.specs.inner.Planes.{in-rows}
 use Rattle.rows.proofs.Lending.{rows-begun, rows-on, row-of, row-of-painted, rows-ended}
 use Rattle.rows.proofs.each.add_up_each.Statement.{statement}

@@ -1,55 +1,57 @@
-use mathlib.Core.Path.{_≡_}
+-- `rule_seven::places::pieces_fit` meets its contract: the tests so far are joined, first of used places, then of the others. Assumes nothing.
+use mathlib.Core.Path.{_≡_, _∙_}
 use mathlib.Core.Bool.{cond}
-use Prim.Native.Nat.{_≤_, _-_}
+use Prim.Native.Nat.{ℕ, _≤_, _-_, _+_}
 use lib.Dec.{ltb}
 use lib.ListN.{getD}
 use native.Mathlib.Omega.{arith}
 use borrow.Author.Needs.{needs}
+use borrow.Author.Tests.{leb-true, lt-ltb, le-ltb}
 use Rattle.plan.specs.Rule7.{every, no-piece, piece-fits, piece-empty, pieces-fit}
 use Rattle.plan.proofs.Counting.{none, more, ended}
 use Rattle.rule_seven.proofs.places.pieces_fit.Statement.{statement}
 use Rattle.rule_seven.proofs.places.pieces_fit.Tie as tie
 
 abbrev Inv-loop : tie.InvT-loop
-Inv-loop h used pieces fit₀ p₀ fit p = (p ≤ 17) × (fit ≡ every p (λ j. cond (ltb j used) (piece-fits h (getD pieces j no-piece)) (piece-empty h (getD pieces j no-piece))))
+Inv-loop h used pieces fit₀ p₀ fit p = (p ≤ used) × (fit ≡ every p (λ j. cond (ltb j used) (piece-fits h (getD pieces j no-piece)) (piece-empty h (getD pieces j no-piece))))
 
 abbrev μ-loop : tie.MeasureT-loop
-μ-loop h used pieces fit₀ p₀ fit p = 17 - p
+μ-loop h used pieces fit₀ p₀ fit p = used - p
 
-cast-used : tie.Need-cast-used Inv-loop μ-loop
-cast-used c = search needs
+abbrev Inv-loop2 : tie.InvT-loop2
+Inv-loop2 h used pieces fit₀ p₀ fit p = (used ≤ p) × ((p ≤ 17) × (fit ≡ every p (λ j. cond (ltb j used) (piece-fits h (getD pieces j no-piece)) (piece-empty h (getD pieces j no-piece)))))
 
-add-used : tie.Need-add-used Inv-loop μ-loop
-add-used c = search needs
+abbrev μ-loop2 : tie.MeasureT-loop2
+μ-loop2 h used pieces fit₀ p₀ fit p = 17 - p
 
-loop-holds : tie.Need-loop-holds Inv-loop μ-loop
-loop-holds c = (omega arith, none _)
+few : (s : tie.Start Inv-loop μ-loop Inv-loop2 μ-loop2) → s .args .c .n ≤ 15
+few s = leb-true _ 15 (s .pre .1)
 
-mul-q : tie.Need-mul-q Inv-loop μ-loop
-mul-q c = search needs
+array-copy-out-q : tie.Need-array-copy-out-q Inv-loop μ-loop Inv-loop2 μ-loop2
+array-copy-out-q c = let s : tie.Start Inv-loop μ-loop Inv-loop2 μ-loop2 = search needs in omega (arith, few s)
 
-array-copy-out-q : tie.Need-array-copy-out-q Inv-loop μ-loop
-array-copy-out-q c = search needs
-
-piece-place-requires : tie.Need-piece-place-requires Inv-loop μ-loop
-piece-place-requires c κs = search needs
-
-add-p : tie.Need-add-p Inv-loop μ-loop
-add-p c = search needs
-
-loop-less : tie.Need-loop-less Inv-loop μ-loop
-loop-less c = search needs
-
-loop-again : tie.Need-loop-again Inv-loop μ-loop
+loop-again : tie.Need-loop-again Inv-loop μ-loop Inv-loop2 μ-loop2
 loop-again c =
-    let lp : tie.At-loop Inv-loop μ-loop = search needs in
-    (omega arith, more _ (lp .loop .inv .1) (c .piece-place .ensures))
+    let lp : tie.At-loop Inv-loop μ-loop Inv-loop2 μ-loop2 = search needs in
+    let il : tie.In-loop Inv-loop μ-loop Inv-loop2 μ-loop2 = search needs in
+    (omega arith, more _ (lp .loop .inv .1) (rw (lt-ltb _ _ (il .loop-test .taken)) (c .piece-fits .ensures)))
 
-returns : tie.Need-returns Inv-loop μ-loop
+loop2-holds : tie.Need-loop2-holds Inv-loop μ-loop Inv-loop2 μ-loop2
+loop2-holds c =
+    let s : tie.Start Inv-loop μ-loop Inv-loop2 μ-loop2 = search needs in
+    let lp : tie.At-loop Inv-loop μ-loop Inv-loop2 μ-loop2 = search needs in
+    (omega arith, (omega (arith, few s), lp .loop .inv .1))
+
+loop2-again : tie.Need-loop2-again Inv-loop μ-loop Inv-loop2 μ-loop2
+loop2-again c =
+    let lp : tie.At-loop2 Inv-loop μ-loop Inv-loop2 μ-loop2 = search needs in
+    (omega arith, (omega arith, more _ (lp .loop2 .inv .1 .1) (rw (le-ltb _ _ (lp .loop2 .inv .0)) (c .piece-empty .ensures))))
+
+returns : tie.Need-returns Inv-loop μ-loop Inv-loop2 μ-loop2
 unfolding pieces-fit
 returns c =
-    let lp : tie.At-loop Inv-loop μ-loop = search needs in
-    ended _ (lp .loop .inv .0) (c .loop-test .left) (lp .loop .inv .1)
+    let lp : tie.At-loop2 Inv-loop μ-loop Inv-loop2 μ-loop2 = search needs in
+    ended _ (lp .loop2 .inv .1 .0) (c .loop2-test .left) (lp .loop2 .inv .1 .1)
 
 pub pieces-fit-spec : {M : Type 1} → statement M
 pieces-fit-spec =
@@ -57,13 +59,22 @@ pieces-fit-spec =
     (tie.spec
     Inv-loop
     μ-loop
-    cast-used
-    add-used
-    loop-holds
-    mul-q
+    Inv-loop2
+    μ-loop2
+    (λ c. search needs)
+    (λ c. search needs)
+    (λ c. (omega arith, none _))
+    (λ c. search needs)
     array-copy-out-q
-    piece-place-requires
-    add-p
-    loop-less
+    (λ c κs. search needs)
+    (λ c. search needs)
+    (λ c. omega arith)
     loop-again
+    loop2-holds
+    (λ c. search needs)
+    (λ c. search needs)
+    (λ c κs. search needs)
+    (λ c. search needs)
+    (λ c. search needs)
+    loop2-again
     returns)

@@ -1,0 +1,28 @@
+-- What the loop over two runs of samples writes at an index: a sample that is cut out of a sum.
+use mathlib.Core.List.{List}
+use Prim.Native.Nat.{ℕ, _+_, _-_, _/_, _%_, _^_, min}
+use Rattle.runs.specs.inner.Loops.{at}
+use Rattle.spans.specs.inner.Spans.{entry}
+use Rattle.sums.specs.declared.Cut.{Cut}
+
+-- a sixteenth of a sum, in 16 bits
+abbrev pub sixteenth : ℕ → ℕ
+sixteenth sum = sum / 16 % 65536
+
+-- and the sample that is cut out of it
+unfoldable pub lower-by : Cut → ℕ → ℕ
+lower-by c u = min (u / 2 ^ (c .shift % 16) - c .low) (c .most)
+
+abbrev pub cut-of : Cut → ℕ → ℕ
+cut-of c sum = lower-by c (sixteenth sum)
+
+-- by tables of mapped samples and of raised residuals: their sum, and the sample that is cut out of it
+unfoldable pub summed : List ℕ → List ℕ → List ℕ → List ℕ → ℕ → ℕ
+summed mapped raised base enhancement i = sixteenth (entry mapped (at base i) + entry raised (at enhancement i))
+
+unfoldable pub added-up : List ℕ → List ℕ → Cut → List ℕ → List ℕ → ℕ → ℕ
+added-up mapped raised cuts base enhancement i = cut-of cuts (entry mapped (at base i) + entry raised (at enhancement i))
+
+-- the second pass: a sample cut out of what stands at an index
+unfoldable pub lowered-at : Cut → List ℕ → ℕ → ℕ
+lowered-at c run i = lower-by c (at run i)

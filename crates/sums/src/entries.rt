@@ -1,0 +1,39 @@
+// What is written for one sample by two tables, whatever the samples: the remainders are indices of the tables.
+ghost use mathlib.Core.Path.{_≡_};
+ghost use Prim.Native.Nat.{_+_, _<_, _≤_};
+ghost use lib.ListN.{length, set};
+ghost use Rattle.sums.specs.inner.Sums.{sixteenth, summed};
+
+// The sum is made in 64 bits, so that no table can make it wrap.
+fn sixteenth_of(v: u16, r: u32) -> u16
+    ensures { λ u. ⌜ u ≡ sixteenth (v + r) ⌝ }
+{
+    (((v as u64) + (r as u64)) / 16 % 65536) as u16
+}
+
+pub(crate) fn summed(
+    mapped: &[u16; 1024],
+    raised: &[u32; 1024],
+    base: &[u16],
+    enhancement: &[u16],
+    i: usize,
+) -> u16
+    requires { ⌜ (i < length (now base)) × (i < length (now enhancement)) ⌝ }
+    ensures { λ r. ⌜ r ≡ summed (now (mapped .entry)) (now (raised .entry)) (now (base .entry)) (now (enhancement .entry)) i ⌝ }
+{
+    let s = base[i];
+    let e = enhancement[i];
+    let v = mapped[(s % 1024) as usize];
+    let r = raised[(e % 1024) as usize];
+    let h = sixteenth_of(v, r);
+    h
+}
+
+// Two samples stored, after all their loads.
+pub(crate) fn store_two(output: &mut [u16], i: usize, a: u16, b: u16)
+    requires { ⌜ i + 2 ≤ length (now output) ⌝ }
+    ensures { λ _. ⌜ now (output .exit) ≡ set (set (now (output .entry)) i a) (i + 1) b ⌝ }
+{
+    output[i] = a;
+    output[i + 1] = b;
+}

@@ -1,0 +1,51 @@
+// Samples added up by two tables, over whole slices: mapped samples and raised residuals, of whose sums the samples are cut out.
+mod entries; // what is written for one sample
+mod passes; // the two passes over a part
+
+use passes::lower_all;
+use passes::sum_up;
+use spans::least;
+ghost use mathlib.Core.Path.{_≡_};
+ghost use Prim.Native.Nat.{min};
+ghost use lib.ListN.{length};
+ghost use Rattle.runs.specs.Runs.{painted};
+ghost use Rattle.runs.specs.inner.Loops.{below};
+ghost use Rattle.sums.specs.inner.Sums.{added-up};
+
+// How a sample is cut out of a sixteenth of a sum: shifted, lowered, and at most so high.
+pub struct Cut {
+    pub shift: u32,
+    pub low: u16,
+    pub most: u16,
+}
+
+// The samples from `from` up to, but not including, `to`.
+struct Part {
+    from: usize,
+    to: usize,
+}
+
+// Writes what is cut out of each sum of a mapped sample and a raised residual, part by part and each in two passes: the first
+// goes by the tables; the second has no table and no branch, so that eight samples are cut at once, while they are near.
+pub fn add_up(
+    mapped: &[u16; 1024],
+    raised: &[u32; 1024],
+    cut: Cut,
+    base: &[u16],
+    enhancement: &[u16],
+    output: &mut [u16],
+)
+    ensures { λ _. ⌜ now (output .exit) ≡ painted (below (min (length (now (base .entry))) (length (now (enhancement .entry))))) (added-up (now (mapped .entry)) (now (raised .entry)) cut (now (base .entry)) (now (enhancement .entry))) (now (output .entry)) ⌝ }
+{
+    let n = least(least(base.len(), enhancement.len()), output.len());
+    let mut i = 0;
+    while i < n {
+        let p = Part {
+            from: i,
+            to: i + least(256, n - i),
+        };
+        sum_up(mapped, raised, p, base, enhancement, output);
+        lower_all(cut, p, output);
+        i = p.to;
+    }
+}
