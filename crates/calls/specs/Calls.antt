@@ -15,6 +15,14 @@ use Rattle.jobs.proofs.open_picture.Reads as opening-reads
 use Rattle.jobs.proofs.compose_job.Kinds as composing-kinds
 use Rattle.jobs.proofs.compose_job.Reads as composing-reads
 
+-- the memory that jobs write
+pub record Memory : Type 0 where
+  pub output : List ℕ
+  pub marks : List ℕ
+
+abbrev pub memory : List ℕ → List ℕ → Memory
+memory output marks = record { output = output; marks = marks }
+
 -- what a call leaves, and the runs in it: open_picture(plan, ticket, marks),
 -- compose_job(plan, open_ticket, ticket, first, count, base, enhancement, output, marks)
 abbrev pub OpenLeft : Lfts 1 → Type 0
@@ -70,17 +78,11 @@ module _ (c : JobCall) where
       let pictures = rows .1 .1 in
       job (c .handed .0) (tickets .0) (tickets .1 .0) (rows .0) (rows .1 .0) (now (pictures .0)) (now (pictures .1 .0))
 
-  abbrev pub output-before : List ℕ
-  output-before = let pictures = c .handed .1 .1 .1 .1 .1 in now (pictures .1 .1 .0)
+  abbrev pub before : Memory
+  before = let pictures = c .handed .1 .1 .1 .1 .1 in memory (now (pictures .1 .1 .0)) (now (pictures .1 .1 .1 .0))
 
-  abbrev pub job-marks-before : List ℕ
-  job-marks-before = let pictures = c .handed .1 .1 .1 .1 .1 in now (pictures .1 .1 .1 .0)
-
-  abbrev pub output-left : List ℕ
-  output-left = output-in-job (c .lifetimes) (c .left)
-
-  abbrev pub marks-left : List ℕ
-  marks-left = marks-in-job (c .lifetimes) (c .left)
+  abbrev pub afterwards : Memory
+  afterwards = memory (output-in-job (c .lifetimes) (c .left)) (marks-in-job (c .lifetimes) (c .left))
 
   abbrev pub said : Outcome
   said = says (c .answered)

@@ -20,6 +20,8 @@ use fields::numbers::one;
 use fields::numbers::two;
 use plan::Header;
 use plan::limits::MOST_COLUMNS;
+use plan::limits::MOST_D;
+use plan::limits::MOST_LUMINANCE;
 use plan::limits::MOST_PAIRS;
 ghost use mathlib.Core.Path.{_≡_};
 ghost use mathlib.Core.Bool.{cond};
@@ -38,7 +40,7 @@ fn pick(fits: bool, kind: u8, rest: u8) -> u8
 fn wrong_depths(h: Header, rest: u8) -> u8
     ensures { λ r. ⌜ r ≡ first-wrong 17 (take 4 (drop 2 (format-tests h))) rest ⌝ }
 {
-    let fits = ((h.el as u16) + 8 + 5 <= (h.d as u16)) & (h.d <= 32);
+    let fits = ((h.el as u16) + 8 + 5 <= (h.d as u16)) & (h.d <= MOST_D);
     let d = pick(fits, DENOMINATOR, rest);
     let depths = pick(h.bl == h.el, DEPTHS, d);
     let el = pick((h.el == 0) | (h.el == 2), EL_DEPTH, depths);
@@ -67,7 +69,7 @@ fn wrong_size(h: Header, zero7: bool, zero14: bool, zero20: bool) -> u8
     let last = pick(zero20, ZERO_20, 0);
     let darkest = pick(h.darkest < 10000 * (h.brightest as u32), DARKEST, last);
     let middle = pick(zero14, ZERO_14, darkest);
-    let brightest = pick(h.brightest <= 10000, BRIGHTEST, middle);
+    let brightest = pick(h.brightest <= MOST_LUMINANCE, BRIGHTEST, middle);
     let pairs = pick((1 <= h.pairs) & (h.pairs <= MOST_PAIRS), PAIRS, brightest);
     let columns = pick(
         (1 <= h.columns) & (h.columns <= MOST_COLUMNS),

@@ -11,7 +11,7 @@ use Rattle.runs.proofs.Painting.{at-painted}
 use Rattle.picture.specs.Picture.{pair-at}
 use Rattle.plan.specs.declared.Plan.{Plan}
 use Rattle.rules.specs.Rules.{extent, names, used}
-use Rattle.compose.specs.Composing.{mapped-at, residual-at, composed-at}
+use Rattle.compose.specs.Composing.{residual-at, composed-at}
 use Rattle.jobs.specs.Jobs.{Job, accepted, sample, output-after}
 use Rattle.jobs.specs.Samples.{EverySample}
 
@@ -27,7 +27,6 @@ module _ (j : Job) (output marks : List ℕ) where
   at i u l h = at-painted _ _ output i 0 l ∙ ap (λ (v : Bool). cond v (sample j i) (getD output i 0)) h
 
 pub every-sample : EverySample
-unfolding composed-at mapped-at residual-at
 every-sample =
     record {
       named = λ j output marks h i l n. ap (λ (r : List ℕ). getD r i 0) (after j output marks true h) ∙ at j output marks i true l n;

@@ -3,7 +3,7 @@ use mathlib.Core.Bool.{Bool, not, cond}
 use mathlib.Core.List.{List, [], _∷_}
 use Prim.Native.Nat.{ℕ}
 use lib.Dec.{eqb}
-use lib.ListN.{length, getD}
+use lib.ListN.{length}
 use Rattle.runs.specs.Runs.{painted}
 use Rattle.refusals.specs.Refusals.{rule, first-met}
 use Rattle.refusals.specs.Outcomes.{Outcome, granted, denied, outcome}
@@ -26,9 +26,6 @@ opened-says (Refused k) = denied k
 
 unfoldable pub opening-answer : Plan → ℕ → ℕ → Outcome
 opening-answer p ticket marks-length = outcome (opening-refusal p marks-length) (ticket ∷ [])
-
-abbrev pub handed-back : Outcome → ℕ
-handed-back o = getD (o .values) 0 0
 
 -- every mark is cleared; a refused opening writes nothing
 unfoldable pub opening-marks : Plan → List ℕ → List ℕ

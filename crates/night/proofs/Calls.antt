@@ -5,14 +5,14 @@ use mathlib.Core.List.{List, [], _∷_}
 use Prim.Native.Nat.{ℕ, zero, suc}
 use lib.Dec.{eqb}
 use lib.ListN.{length}
-use Rattle.refusals.specs.Outcomes.{Outcome, outcome}
+use Rattle.refusals.specs.Outcomes.{Outcome, granted, outcome}
 use Rattle.plan.specs.declared.Plan.{Plan}
-use Rattle.jobs.specs.Opening.{opening-accepted, opening-answer, opening-refusal, handed-back}
+use Rattle.jobs.specs.Opening.{opening-accepted, opening-answer, opening-refusal}
 use Rattle.jobs.specs.Jobs.{Job, job-answer}
-use Rattle.calls.specs.Calls.{OpenCall, opening-plan, opening-ticket, marks-before, marks-opened, opening-said}
-use Rattle.calls.specs.Calls.{JobCall, job-of, said}
-use Rattle.night.specs.Night.{Memory, step, run, opened, Leaves}
-use Rattle.night.specs.Calls.{memory, before, afterwards, Calls, none, more, answers, AnyChainOfCalls}
+use Rattle.calls.specs.Calls.{Memory, memory, OpenCall, opening-plan, opening-ticket, marks-before, marks-opened, opening-said}
+use Rattle.calls.specs.Calls.{JobCall, job-of, before, afterwards, said}
+use Rattle.night.specs.Night.{step, run, opened, Leaves}
+use Rattle.night.specs.Calls.{Calls, none, more, answers, AnyChainOfCalls}
 use Rattle.night.proofs.Night.{standby-night}
 
 as-run : {m n : Memory} {js : List Job} {os : List Outcome} → Calls m js os n → (n ≡ run js m) × (os ≡ answers js m)
@@ -23,11 +23,11 @@ as-run (more {js} c cs) =
     (as-run cs .0 ∙ ap (run js) after, ap₂ (λ (x : Outcome) (xs : List Outcome). x ∷ xs) (c .kept .0) (as-run cs .1 ∙ ap (answers js) after))
 
 -- an opening that is not refused was accepted, and hands back the ticket that it was given
-opened-as : (p : Plan) (ticket n : ℕ) → opening-answer p ticket n .refused ≡ false → (opening-accepted p n ≡ true) × (handed-back (opening-answer p ticket n) ≡ ticket)
+opened-as : (p : Plan) (ticket n : ℕ) → opening-answer p ticket n .refused ≡ false → (opening-accepted p n ≡ true) × (opening-answer p ticket n ≡ granted (ticket ∷ []))
 unfolding opening-answer opening-accepted outcome
 opened-as p ticket n h = go (opening-refusal p n) h
   where
-    go : (k : ℕ) → outcome k (ticket ∷ []) .refused ≡ false → (eqb k 0 ≡ true) × (handed-back (outcome k (ticket ∷ [])) ≡ ticket)
+    go : (k : ℕ) → outcome k (ticket ∷ []) .refused ≡ false → (eqb k 0 ≡ true) × (outcome k (ticket ∷ []) ≡ granted (ticket ∷ []))
     go zero q = (refl, refl)
     go (suc k) q = absurd (true≢false q)
 
@@ -42,7 +42,7 @@ any-chain-of-calls o opens base enhancement output js os m calls ks =
     let memory-is : m ≡ run js (opened p output marks) = as-run calls .0 ∙ ap (run js) start in
     let was-asked = opened-as p (opening-ticket o) (length marks) (ap (λ (x : Outcome). x .refused) (sym (o .kept .0)) ∙ opens) in
     let finished = standby-night p base enhancement output marks js (was-asked .0) ks in (
-      ap handed-back (o .kept .0) ∙ was-asked .1,
+      o .kept .0 ∙ was-asked .1,
       record {
         memory-is = memory-is;
         answers-are = as-run calls .1 ∙ ap (answers js) start;

@@ -22,7 +22,8 @@ use Rattle.marks.specs.Marks.{every-pair, waiting}
 use Rattle.jobs.specs.Jobs.{Job, job-refusal, accepted, sample, output-after, marks-after, job-answer, complete}
 use Rattle.marks.specs.Marks.{done, is-waiting}
 use Rattle.jobs.proofs.Samples.{same-sample}
-use Rattle.night.specs.Night.{Memory, step, run, opened, named, count-below, rows-left-after, Keeps, AllKeep, none, more, Sent, here, later, Leaves, StandbyNight}
+use Rattle.calls.specs.Calls.{Memory}
+use Rattle.night.specs.Night.{step, run, opened, named, count-below, rows-left-after, Keeps, AllKeep, none, more, Sent, here, later, Leaves, StandbyNight}
 use Rattle.night.proofs.Counting.{count-cong, left-waiting}
 
 -- an accepted opening found a mark for each row pair, and cleared them all

@@ -5,23 +5,12 @@ use mathlib.Core.Bool.{true, false}
 use mathlib.Core.List.{List, [], _∷_, _++_}
 use Prim.Native.Nat.{ℕ}
 use lib.ListN.{length}
-use Rattle.refusals.specs.Outcomes.{Outcome}
+use Rattle.refusals.specs.Outcomes.{Outcome, granted}
 use Rattle.plan.specs.declared.Plan.{Plan}
 use Rattle.jobs.specs.Jobs.{Job, accepted, job-answer}
-use Rattle.jobs.specs.Opening.{handed-back}
-use Rattle.calls.specs.Calls.{OpenCall, opening-plan, opening-ticket, marks-before, marks-opened, opening-said}
-use Rattle.calls.specs.Calls.{JobCall, job-of, output-before, job-marks-before, output-left, marks-left, said}
-use Rattle.night.specs.Night.{Memory, step, run, opened, rows-left-after, Keeps, AllKeep, Leaves, StaysFinished}
-
-abbrev pub memory : List ℕ → List ℕ → Memory
-memory output marks = record { output = output; marks = marks }
-
--- the memory before a job's call, and after it
-abbrev pub before : JobCall → Memory
-before c = memory (output-before c) (job-marks-before c)
-
-abbrev pub afterwards : JobCall → Memory
-afterwards c = memory (output-left c) (marks-left c)
+use Rattle.calls.specs.Calls.{Memory, memory, OpenCall, opening-plan, opening-ticket, marks-before, marks-opened, opening-said}
+use Rattle.calls.specs.Calls.{JobCall, job-of, before, afterwards, said}
+use Rattle.night.specs.Night.{step, run, opened, rows-left-after, Keeps, AllKeep, Leaves, StaysFinished}
 
 -- calls one after the other on one memory, with their jobs and what they said
 pub data Calls : Memory → List Job → List Outcome → Memory → Type 0 where
@@ -50,4 +39,4 @@ AnyChainOfCalls =
     (o : OpenCall) → opening-said o .refused ≡ false →
     (base enhancement output : List ℕ) (js : List Job) (os : List Outcome) (m : Memory) → Calls (memory output (marks-opened o)) js os m →
     AllKeep (opening-plan o) base enhancement (length output) (length (marks-before o)) js →
-    (handed-back (opening-said o) ≡ opening-ticket o) × CallsStayFinished (opening-plan o) base enhancement output (marks-before o) js os m
+    (opening-said o ≡ granted (opening-ticket o ∷ [])) × CallsStayFinished (opening-plan o) base enhancement output (marks-before o) js os m

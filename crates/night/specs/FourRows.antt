@@ -11,7 +11,8 @@ use Rattle.plan.specs.declared.Component.{Component}
 use Rattle.plan.specs.declared.Plan.{Plan}
 use Rattle.plan.specs.Rule7.{zero-piece}
 use Rattle.jobs.specs.Jobs.{Job, job, job-answer}
-use Rattle.night.specs.Night.{Memory, step, opened, Leaves}
+use Rattle.calls.specs.Calls.{Memory}
+use Rattle.night.specs.Night.{step, opened, Leaves}
 
 -- W = 2 and H = 4, depth 10 to 12, every component linear, no residual
 abbrev four-rows-header : Header

@@ -12,14 +12,11 @@ use Rattle.rules.specs.Rules.{extent, names}
 use Rattle.compose.specs.Composing.{composed-at}
 use Rattle.jobs.specs.Opening.{opening-accepted, opening-marks}
 use Rattle.jobs.specs.Jobs.{Job, accepted, output-after, marks-after, job-answer, rows-left, complete}
+use Rattle.calls.specs.Calls.{Memory, memory}
 
--- the memory that jobs write, and what one job and then a sequence of jobs leaves in it
-pub record Memory : Type 0 where
-  pub output : List ℕ
-  pub marks : List ℕ
-
+-- what one job and then a sequence of jobs leaves in the memory that jobs write
 abbrev pub step : Job → Memory → Memory
-step j m = record { output = output-after j (m .output) (m .marks); marks = marks-after j (m .output) (m .marks) }
+step j m = memory (output-after j (m .output) (m .marks)) (marks-after j (m .output) (m .marks))
 
 unfoldable pub run : List Job → Memory → Memory
 run [] m = m
@@ -27,7 +24,7 @@ run (j ∷ js) m = run js (step j m)
 
 -- the memory after an opening, from any output and any marks
 abbrev pub opened : Plan → List ℕ → List ℕ → Memory
-opened p output marks = record { output = output; marks = opening-marks p marks }
+opened p output marks = memory output (opening-marks p marks)
 
 -- some accepted job of the sequence named row pair k; a and b are the lengths of the output and of the marks
 unfoldable pub named : ℕ → ℕ → List Job → ℕ → Bool

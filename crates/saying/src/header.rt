@@ -21,6 +21,8 @@ use frame::kinds::PROFILE;
 use frame::kinds::ZERO_7;
 use frame::kinds::ZERO_14;
 use plan::limits::MOST_COLUMNS;
+use plan::limits::MOST_D;
+use plan::limits::MOST_LUMINANCE;
 use plan::limits::MOST_PAIRS;
 
 fn byte_column(name: &[u8], v: u8, allowed: &[u8]) {
@@ -53,13 +55,17 @@ fn say_denominator(d: u8, el: u8) {
     say(b"coefficient_log2_denom");
     found(d as usize);
     say_number((el as usize) + 8 + 5);
-    say(b" to 32\n");
+    say(b" to ");
+    say_number(MOST_D as usize);
+    say(b"\n");
 }
 
 fn say_brightest(v: u16) {
     say(b"max_display_mastering_luminance");
     found(v as usize);
-    say(b"0 to 10000\n");
+    say(b"0 to ");
+    say_number(MOST_LUMINANCE as usize);
+    say(b"\n");
 }
 
 // Both luminances in units of 0.0001 cd/m2.

@@ -19,6 +19,9 @@ pub struct Cut {
     pub most: u16,
 }
 
+// So many samples stay in the nearest cache from the first pass to the second.
+const PART: usize = 256;
+
 // The samples from `from` up to, but not including, `to`.
 struct Part {
     from: usize,
@@ -42,7 +45,7 @@ pub fn add_up(
     while i < n {
         let p = Part {
             from: i,
-            to: i + least(256, n - i),
+            to: i + least(PART, n - i),
         };
         sum_up(mapped, raised, p, base, enhancement, output);
         lower_all(cut, p, output);

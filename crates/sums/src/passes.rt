@@ -1,4 +1,5 @@
-// The two passes of adding up a part: sums by the tables, and a sample cut out of each sum, in place.
+// The two passes of adding up a part: sums by the tables, and a sample cut out of each sum, in place. The run is as long as the
+// part's end asks; its own length is one that a word can hold, which is not known of a number in a struct.
 use crate::Cut;
 use crate::Part;
 use crate::entries::store_two;
@@ -10,6 +11,7 @@ ghost use lib.ListN.{length};
 ghost use Rattle.runs.specs.Runs.{painted, between};
 ghost use Rattle.sums.specs.inner.Sums.{summed, lowered-at};
 
+// Four samples a turn, two stored after the loads of both: a loop of one sample waits for its own counting.
 pub(crate) fn sum_up(
     mapped: &[u16; 1024],
     raised: &[u32; 1024],
