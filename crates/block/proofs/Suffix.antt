@@ -7,17 +7,20 @@ use Prim.Native.Nat.{ℕ, _+_, _-_, _≤_}
 use native.Mathlib.Omega.{arith}
 use lib.ListN.{length, length-append}
 use lib.Seq.{drop-append-add}
-use lib.Dec.{eqb}
+use borrow.Author.Tests.{ne-eqb}
 use Rattle.plan.specs.declared.Header.{Header}
 use Rattle.plan.specs.declared.Component.{Component}
 use Rattle.plan.specs.Ranges.{header-fits}
+use Rattle.plan.specs.Rule7.{component-fits}
 use Rattle.fields.specs.declared.Name.{Name}
-use Rattle.fields.specs.Fields.{no-name}
-use Rattle.sections.specs.declared.Found.{Found}
+use Rattle.fields.specs.Fields.{Read, refused, got, no-name}
+use Rattle.fields.proofs.Giving.{Gives}
+use Rattle.sections.specs.Sections.{section}
+use Rattle.sections.proofs.Fitting.{section-gives}
 use Rattle.block.specs.declared.Reading.{Reading}
 use Rattle.frame.specs.declared.Trailer.{Trailer}
 use Rattle.frame.specs.Frame.{trailer, trailer-fits, header, zeros-fit, wrong-column}
-use Rattle.block.specs.Reading.{tail, part, refusal, section-at, met, sections, body, read}
+use Rattle.block.specs.Reading.{tail, part, refusal, met, with-section, sections, body, read}
 use Rattle.block.specs.Facts.{moved}
 use Rattle.block.specs.inner.Placed.{Placed}
 use Rattle.block.proofs.Cascade.{bad-trailer, goes-on, placed}
@@ -36,20 +39,19 @@ module _ (p s : List ℕ) where
       let e : length (p ++ s) - 12 ≡ n + (length s - 12) = omega (arith, length-append p s) in
       (e, rw (e, length-append p s, part-moved (length s - 12) (length s)))
 
-  section-moved : (a b : ℕ) (h : Header) (k : ℕ) (next next' : Component → Reading) → ((c : Component) → next' c ≡ moved n (next c))
-      → met (n + a) (section-at (p ++ s) (n + a) (n + b) h k) next' ≡ moved n (met a (section-at s a b h k) next)
+  section-moved : (k a b : ℕ) (h : Header) (next next' : Component → Reading) → ((c : Component) → next' c ≡ moved n (next c))
+      → with-section (p ++ s) h k (n + a) (n + b) next' ≡ moved n (with-section s h k a b next)
   unfolding met
-  section-moved a b h k next next' f = rw (part-moved a b) (go (eqb (x .number) 0) refl)
+  section-moved k a b h next next' f = rw (part-moved a b) (by (section h k x) (section-gives h k x))
     where
-      x : Found
-      x = section-at s a b h k
+      x : List ℕ
+      x = part s a b
 
-      go : (t : Bool) → eqb (x .number) 0 ≡ t
-          → cond t (next' (x .component)) (refusal (x .number) (n + a + x .place) (x .field)) ≡ moved n (cond t (next (x .component)) (refusal (x .number) (a + x .place) (x .field)))
-      go true e = f (x .component)
-      go false e =
-          let l : n + a + x .place ≡ n + (a + x .place) = omega arith in
-          rw (e, l)
+      by : (r : Read Component) → Gives (λ c. component-fits h c ≡ true) r → met (n + a) x r next' ≡ moved n (met a x r next)
+      by (refused m name rest) some =
+          let l : n + a + (length x - length rest) ≡ n + (a + (length x - length rest)) = omega arith in
+          rw (ne-eqb m 0 some, l)
+      by (got c rest) fits = f c
 
   module _ (h : Header) where
     sections-moved : (t : ℕ) (x : Trailer) → Placed (length s) t x → sections (p ++ s) (n + t) x h ≡ moved n (sections s t x h)
@@ -59,9 +61,9 @@ module _ (p s : List ℕ) where
         let e1 : n + t - x .d1 ≡ n + (t - x .d1) = omega (arith, w) in
         let e2 : n + t - x .d2 ≡ n + (t - x .d2) = omega (arith, w) in
         rw (e0, e1, e2)
-        (section-moved (t - x .d0) (t - x .d1) h 0 _ _ (λ y.
-        section-moved (t - x .d1) (t - x .d2) h 1 _ _ (λ cb.
-        section-moved (t - x .d2) t h 2 _ _ (λ cr. refl))))
+        (section-moved 0 (t - x .d0) (t - x .d1) h _ _ (λ y.
+        section-moved 1 (t - x .d1) (t - x .d2) h _ _ (λ cb.
+        section-moved 2 (t - x .d2) t h _ _ (λ cr. refl))))
 
   body-moved : (t : ℕ) (x : Trailer) → Placed (length s) t x → body (p ++ s) (n + t) x ≡ moved n (body s t x)
   unfolding body

@@ -2,18 +2,17 @@
 use mathlib.Core.Bool.{cond, not, _&&_}
 use mathlib.Core.List.{List}
 use Prim.Native.Nat.{ℕ, _+_, _-_}
-use lib.Dec.{ltb, eqb}
+use lib.Dec.{ltb}
 use lib.ListN.{length, take, drop}
 use Rattle.plan.specs.declared.Header.{Header}
 use Rattle.plan.specs.declared.Component.{Component}
 use Rattle.plan.specs.Ranges.{header-fits}
 use Rattle.plan.specs.Rule7.{no-plan}
 use Rattle.fields.specs.declared.Name.{Name}
-use Rattle.fields.specs.Fields.{no-name}
+use Rattle.fields.specs.Fields.{Read, refused, got, no-name}
 use Rattle.frame.specs.declared.Trailer.{Trailer}
 use Rattle.frame.specs.Frame.{trailer, trailer-fits, header, zeros-fit, wrong-column}
-use Rattle.sections.specs.declared.Found.{Found}
-use Rattle.sections.specs.Sections.{under, found}
+use Rattle.sections.specs.Sections.{section}
 use Rattle.block.specs.declared.Reading.{Reading}
 
 -- the bytes from a up to, but not including, b
@@ -28,20 +27,21 @@ tail bytes = part bytes (length bytes - 12) (length bytes)
 abbrev pub refusal : ℕ → ℕ → Name → Reading
 refusal k place name = record { number = k; place = place; field = name; plan = no-plan }
 
--- section k, the bytes from a up to b
-abbrev pub section-at : List ℕ → ℕ → ℕ → Header → ℕ → Found
-section-at bytes a b h k = found (part bytes a b) (under h k (part bytes a b))
+-- a section s that begins at byte a: its failure is the answer, at the byte where it was met, or else what follows
+unfoldable pub met : ℕ → List ℕ → Read Component → (Component → Reading) → Reading
+met a s (refused k name rest) next = refusal k (a + (length s - length rest)) name
+met a s (got c rest) next = next c
 
--- a section that begins at byte a: its failure is the answer, or else what follows
-unfoldable pub met : ℕ → Found → (Component → Reading) → Reading
-met a f next = cond (eqb (f .number) 0) (next (f .component)) (refusal (f .number) (a + f .place) (f .field))
+-- section k, the bytes from a up to b
+abbrev pub with-section : List ℕ → Header → ℕ → ℕ → ℕ → (Component → Reading) → Reading
+with-section bytes h k a b next = met a (part bytes a b) (section h k (part bytes a b)) next
 
 -- the sections from first byte to last
 unfoldable pub sections : List ℕ → ℕ → Trailer → Header → Reading
 sections bytes t x h =
-    met (t - x .d0) (section-at bytes (t - x .d0) (t - x .d1) h 0) (λ y.
-    met (t - x .d1) (section-at bytes (t - x .d1) (t - x .d2) h 1) (λ cb.
-    met (t - x .d2) (section-at bytes (t - x .d2) t h 2) (λ cr.
+    with-section bytes h 0 (t - x .d0) (t - x .d1) (λ y.
+    with-section bytes h 1 (t - x .d1) (t - x .d2) (λ cb.
+    with-section bytes h 2 (t - x .d2) t (λ cr.
     record { number = 0; place = 0; field = no-name; plan = record { header = h; y = y; cb = cb; cr = cr } })))
 
 -- the header (4), and then the sections

@@ -12,11 +12,13 @@ use plan::Plan;
 use sections::Found;
 use sections::read_section;
 ghost use mathlib.Core.Path.{_≡_};
+ghost use mathlib.Core.Bool.{true};
 ghost use Prim.Native.Nat.{_+_, _≤_};
 ghost use lib.ListN.{length};
-ghost use Rattle.block.specs.Reading.{refusal, section-at, sections, body, read};
+ghost use Rattle.plan.specs.Ranges.{header-fits};
+ghost use Rattle.block.specs.Reading.{refusal, sections, body, read};
 ghost use Rattle.block.specs.Facts.{Sound, LastBytes};
-ghost use Rattle.block.specs.inner.Placed.{Placed};
+ghost use Rattle.block.specs.inner.Placed.{Placed, section-at};
 
 // What reading comes to: 0 and the plan, or the refusal's number, the byte and the field where the failure was met, and a plan
 // of zeros. Rules 1 and 2 name no field.
@@ -51,6 +53,7 @@ fn part(bytes: &[u8], a: usize, b: usize, h: Header, k: usize) -> Found
 // The sections from first byte to last: the first failure met is the answer.
 fn sections(bytes: &[u8], t: usize, x: Trailer, h: Header) -> Reading
     requires { ⌜ Placed (length (now bytes)) t x ⌝ }
+    requires { ⌜ header-fits h ≡ true ⌝ }
     ensures { λ r. ⌜ r ≡ sections (now (bytes .entry)) t x h ⌝ }
 {
     let a = t - (x.d0 as usize);

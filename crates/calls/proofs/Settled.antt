@@ -63,9 +63,6 @@ settled =
       job-marks = λ κs a r r' s s' p q. p .1 .1 ∙ sym (q .1 .1);
       job-number = λ κs a r r' s s' p q. p ∙ sym q;
       is-complete = λ κs a r r' s s' p q. p ∙ sym q;
-      speed-job = λ κs a r r' s s' p q. p .0 ∙ sym (q .0);
-      speed-output = λ κs a r r' s s' p q. p .1 .0 ∙ sym (q .1 .0);
-      speed-marks = λ κs a r r' s s' p q. p .1 .1 ∙ sym (q .1 .1);
     }
 
 pub leaves-settled : LeavesSettled
@@ -92,4 +89,7 @@ leaves-settled =
       least = λ κs a r r' s s' p q. p ∙ sym q;
       plain-planes = λ κs a r r' s s' p q. p ∙ sym q;
       enhanced-planes = λ κs a r r' s s' p q. p ∙ sym q;
+      speed-job = λ κs a r r' s s' p q. p .0 ∙ sym (q .0);
+      speed-output = λ κs a r r' s s' p q. p .1 .0 ∙ sym (q .1 .0);
+      speed-marks = λ κs a r r' s s' p q. p .1 .1 ∙ sym (q .1 .1);
     }

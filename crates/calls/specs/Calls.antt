@@ -2,18 +2,13 @@
 -- and what they left in the memory that they were lent. The places of the parameters are named here, once.
 use mathlib.Core.List.{List}
 use Prim.Native.Nat.{ℕ}
-use contract.Lifetimes.{Lfts}
-use borrow.Fn.Kinds.{endedOf}
-use denote.Triple.Clauses.{AtExit}
 use denote.Ref.{now}
 use Rattle.refusals.specs.Outcomes.{Outcome}
 use Rattle.plan.specs.declared.Plan.{Plan}
 use Rattle.jobs.specs.Jobs.{Job, job, says}
 use Rattle.jobs.specs.Opening.{opened-says}
-use Rattle.jobs.proofs.open_picture.Kinds as opening-kinds
-use Rattle.jobs.proofs.open_picture.Reads as opening-reads
-use Rattle.jobs.proofs.compose_job.Kinds as composing-kinds
-use Rattle.jobs.proofs.compose_job.Reads as composing-reads
+use Rattle.jobs.proofs.open_picture.Reads as opening
+use Rattle.jobs.proofs.compose_job.Reads as composing
 
 -- the memory that jobs write
 pub record Memory : Type 0 where
@@ -23,23 +18,6 @@ pub record Memory : Type 0 where
 abbrev pub memory : List ℕ → List ℕ → Memory
 memory output marks = record { output = output; marks = marks }
 
--- what a call leaves, and the runs in it: open_picture(plan, ticket, marks),
--- compose_job(plan, open_ticket, ticket, first, count, base, enhancement, output, marks)
-abbrev pub OpenLeft : Lfts 1 → Type 0
-OpenLeft κs = AtExit (endedOf 1 opening-kinds.ps opening-kinds.r) κs
-
-abbrev pub marks-in-opening : (κs : Lfts 1) → OpenLeft κs → List ℕ
-marks-in-opening κs s = now (s .1 .1 .0)
-
-abbrev pub JobLeft : Lfts 4 → Type 0
-JobLeft κs = AtExit (endedOf 4 composing-kinds.ps composing-kinds.r) κs
-
-abbrev pub output-in-job : (κs : Lfts 4) → JobLeft κs → List ℕ
-output-in-job κs s = let pictures = s .1 .1 .1 .1 .1 in now (pictures .1 .1 .0)
-
-abbrev pub marks-in-job : (κs : Lfts 4) → JobLeft κs → List ℕ
-marks-in-job κs s = let pictures = s .1 .1 .1 .1 .1 in now (pictures .1 .1 .1 .0)
-
 -- a call that has ended as it promises: by its lifetimes, what it was handed, what it answered and what it left
 pub record Ended {K : Type 0} {Handed Answered Left : K → Type 0} (Post : (κs : K) → Handed κs → Answered κs → Left κs → Type 0) : Type 0 where
   pub lifetimes : K
@@ -48,8 +26,9 @@ pub record Ended {K : Type 0} {Handed Answered Left : K → Type 0} (Post : (κs
   pub left : Left lifetimes
   pub kept : Post lifetimes handed answered left
 
+-- open_picture(plan, ticket, marks)
 abbrev pub OpenCall : Type 0
-OpenCall = Ended opening-reads.Post
+OpenCall = Ended opening.Post
 
 module _ (c : OpenCall) where
   abbrev pub opening-plan : Plan
@@ -62,13 +41,14 @@ module _ (c : OpenCall) where
   marks-before = now (c .handed .1 .1 .0)
 
   abbrev pub marks-opened : List ℕ
-  marks-opened = marks-in-opening (c .lifetimes) (c .left)
+  marks-opened = now (c .left .1 .1 .0)
 
   abbrev pub opening-said : Outcome
   opening-said = opened-says (c .answered)
 
+-- compose_job(plan, open_ticket, ticket, first, count, base, enhancement, output, marks)
 abbrev pub JobCall : Type 0
-JobCall = Ended composing-reads.Post
+JobCall = Ended composing.Post
 
 module _ (c : JobCall) where
   abbrev pub job-of : Job
@@ -82,7 +62,7 @@ module _ (c : JobCall) where
   before = let pictures = c .handed .1 .1 .1 .1 .1 in memory (now (pictures .1 .1 .0)) (now (pictures .1 .1 .1 .0))
 
   abbrev pub afterwards : Memory
-  afterwards = memory (output-in-job (c .lifetimes) (c .left)) (marks-in-job (c .lifetimes) (c .left))
+  afterwards = let pictures = c .left .1 .1 .1 .1 .1 in memory (now (pictures .1 .1 .0)) (now (pictures .1 .1 .1 .0))
 
   abbrev pub said : Outcome
   said = says (c .answered)

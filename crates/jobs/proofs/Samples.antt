@@ -12,8 +12,7 @@ use Rattle.picture.specs.Picture.{pair-at}
 use Rattle.plan.specs.declared.Plan.{Plan}
 use Rattle.rules.specs.Rules.{extent, names, used}
 use Rattle.compose.specs.Composing.{residual-at, composed-at}
-use Rattle.jobs.specs.Jobs.{Job, accepted, sample, output-after}
-use Rattle.jobs.specs.Samples.{EverySample}
+use Rattle.jobs.specs.Jobs.{Job, accepted, sample, output-after, EverySample}
 
 module _ (j : Job) (output marks : List ℕ) where
   abbrev painting : List ℕ

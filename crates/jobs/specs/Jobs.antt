@@ -1,7 +1,8 @@
 -- A row job: its refusals, its answer, and what it leaves in the output and in the marks.
-use mathlib.Core.Bool.{Bool, not, _&&_, cond}
+use mathlib.Core.Path.{_≡_}
+use mathlib.Core.Bool.{Bool, true, false, not, _&&_, cond}
 use mathlib.Core.List.{List, [], _∷_}
-use Prim.Native.Nat.{ℕ}
+use Prim.Native.Nat.{ℕ, _<_}
 use lib.Dec.{eqb}
 use lib.ListN.{length, getD}
 use Rattle.runs.specs.Runs.{painted, tally}
@@ -66,3 +67,11 @@ rows-left o = getD (o .values) 0 0
 -- complete is said exactly where the job is done and no row pair is left
 abbrev pub complete : Outcome → Bool
 complete o = not (o .refused) && eqb (rows-left o) 0
+
+-- demand 2, of every job
+pub record EverySample : Type 0 where
+  -- each sample of the row pairs that an accepted job names
+  pub named : (j : Job) (output marks : List ℕ) → accepted j (length output) (length marks) ≡ true → (i : ℕ) → i < length output → names (j .work) (pair-at (extent (j .work .plan .header)) i) ≡ true → getD (output-after j output marks) i 0 ≡ sample j i
+  -- every other sample is as it was, and so is every sample where the job is refused
+  pub others : (j : Job) (output marks : List ℕ) (i : ℕ) → i < length output → names (j .work) (pair-at (extent (j .work .plan .header)) i) ≡ false → getD (output-after j output marks) i 0 ≡ getD output i 0
+  pub refused : (j : Job) (output marks : List ℕ) → accepted j (length output) (length marks) ≡ false → output-after j output marks ≡ output

@@ -9,14 +9,15 @@ use lib.IntN.{pos}
 use lib.ListN.{length}
 use Rattle.plan.specs.declared.Header.{Header}
 use Rattle.plan.specs.declared.Component.{Component}
-use Rattle.plan.specs.Ranges.{header-fits, count-fits, pivot-fits, order-fits, offset-fits, fraction-fits, coefficient-fits, unsigned-fits}
+use Rattle.plan.specs.Ranges.{count-fits, pivot-fits, order-fits, offset-fits, fraction-fits, coefficient-fits, unsigned-fits}
 use Rattle.plan.specs.Rule7.{every, pivot-places, piece-places, row-places, pivots-used, pieces-used, coefficients-used, no-piece, zero-piece, is-zero, row-fits, piece-fits, piece-empty, pivots-fit, pieces-fit, nlq-fits, component-fits}
 use Rattle.fields.specs.declared.Width.{Width}
 use Rattle.fields.specs.declared.Width.the-variants.{One, Two, Four}
-use Rattle.fields.specs.Fields.{Read, refused, got, no-name, repeated}
+use Rattle.fields.specs.Fields.{Read, refused, got, repeated}
 use Rattle.fields.proofs.Giving.{Each, Gives, then-gives, field-gives, repeated-gives, ended-gives}
 use Rattle.section_fields.specs.Fields.{asked, ranged, integer-fits, refused-idc}
-use Rattle.sections.specs.Sections.{coefficient, unsigned, idc, piece, pivot, nlq, counted, section, under, found}
+use Rattle.sections.specs.Sections.{coefficient, unsigned, idc, piece, pivot, nlq, counted, section}
+use Rattle.sections.specs.inner.Answering.{found}
 use Rattle.sections.proofs.Places.{and, places}
 use Rattle.sections.proofs.Ranged.{unsigned-in, coefficient-in}
 
@@ -69,7 +70,8 @@ module _ (h : Header) (k : ℕ) where
   unfolding piece-empty row-fits every
   empty-piece = refl
 
-  section-gives : (bytes : List ℕ) → Gives (λ c. component-fits h c ≡ true) (section h k bytes)
+  -- for whoever reads a section
+  pub section-gives : (bytes : List ℕ) → Gives (λ c. component-fits h c ≡ true) (section h k bytes)
   unfolding section component-fits pivots-fit pieces-fit
   section-gives bytes =
       then-gives (λ v. count-fits v ≡ true) _ (ranged (asked 1 k 0 0 One) count-fits bytes) _ (in-range 1 k 0 0 One count-fits bytes)
@@ -81,22 +83,6 @@ module _ (h : Header) (k : ℕ) where
       (λ q e rest. ended-gives (λ c. component-fits h c ≡ true) _ 3 _ (λ z. omega arith)
       (and a (and (places (pivot-fits h) (λ v. eqb v 0) 0 0 refl pivot-places several l (b .0) (b .1))
       (and (places (piece-fits h) (piece-empty h) zero-piece no-piece empty-piece piece-places used m (d .0) (d .1)) e))) rest))))
-
-  under-gives : (bytes : List ℕ) → Gives (λ c. component-fits h c ≡ true) (under h k bytes)
-  under-gives bytes = go (header-fits h)
-    where
-      go : (t : Bool) → Gives (λ c. component-fits h c ≡ true) (cond t (section h k bytes) (refused 4 no-name bytes))
-      go true = section-gives bytes
-      go false = λ z. omega arith
-
-  -- a section that is accepted passes rule 7
-  pub accepted : (s : List ℕ) → found s (under h k s) .number ≡ 0 → component-fits h (found s (under h k s) .component) ≡ true
-  unfolding found
-  accepted s e = go (under h k s) (under-gives s) e
-    where
-      go : (r : Read Component) → Gives (λ c. component-fits h c ≡ true) r → found s r .number ≡ 0 → component-fits h (found s r .component) ≡ true
-      go (refused n name rest) g e = absurd (g e)
-      go (got c rest) g e = g
 
 -- where a section failed, in its bytes
 pub place-le : (s : List ℕ) (r : Read Component) → found s r .place ≤ length s

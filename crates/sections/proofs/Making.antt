@@ -21,7 +21,8 @@ use Rattle.fields.specs.inner.Cursors.{start, from, Reads, filled}
 use Rattle.fields.proofs.Following.{joined, done}
 use Rattle.fields.proofs.Filling.{listed}
 use Rattle.section_fields.specs.Fields.{asked, ranged, signed, integer-fits}
-use Rattle.sections.specs.Sections.{coefficient, unsigned, idc, piece, pivot, nlq, counted, section, under, failed, found}
+use Rattle.sections.specs.Sections.{coefficient, unsigned, idc, piece, pivot, nlq, counted, section}
+use Rattle.sections.specs.inner.Answering.{under, failed, found}
 
 module _ {s : List ℕ} (h : Header) (k : ℕ) {c c1 c2 : Cursor} where
   pub made-coefficient : (p i one n f : ℕ) {y : Ask} {z a : ℤ} → z ≡ a *ℤ pos one +ℤ pos f → a ≡ signed n → one ≡ 2 ^ h .d → y ≡ asked 6 k p i Four

@@ -1,22 +1,18 @@
 -- A section of the composing block (the house rules): pivots, pieces and the residual's numbers of one component.
-use mathlib.Core.Bool.{cond}
 use mathlib.Core.List.{List, []}
-use Prim.Native.Nat.{ℕ, _+_, _-_, _*_, _^_}
+use Prim.Native.Nat.{ℕ, _+_, _*_, _^_}
 use lib.Dec.{leb, ltb, eqb}
-use lib.IntN.{ℤ, pos, _-ℤ_}
-use lib.ListN.{length}
+use lib.IntN.{ℤ, pos}
 use Rattle.standard.specs.Parameters.{fp}
 use Rattle.plan.specs.declared.Header.{Header}
 use Rattle.plan.specs.declared.Piece.{Piece}
 use Rattle.plan.specs.declared.Nlq.{Nlq}
 use Rattle.plan.specs.declared.Component.{Component}
-use Rattle.plan.specs.Ranges.{header-fits, count-fits, pivot-fits, order-fits, offset-fits, fraction-fits}
+use Rattle.plan.specs.Ranges.{count-fits, pivot-fits, order-fits, offset-fits, fraction-fits}
 use Rattle.plan.specs.Rule7.{pivot-places, piece-places, row-places, pivots-used, pieces-used, coefficients-used, zero-piece, no-component}
-use Rattle.fields.specs.declared.Name.{Name}
 use Rattle.fields.specs.declared.Width.the-variants.{One, Two, Four}
-use Rattle.fields.specs.Fields.{Read, refused, got, _then_, no-name, field, repeated, padded, ended}
+use Rattle.fields.specs.Fields.{Read, got, _then_, field, repeated, padded, ended}
 use Rattle.section_fields.specs.Fields.{asked, ranged, signed, integer-fits, refused-idc}
-use Rattle.sections.specs.declared.Found.{Found}
 
 -- coefficient i of piece p: a signed byte -64 to 63, and a fraction of 4 bytes
 unfoldable pub coefficient : Header → ℕ → ℕ → ℕ → List ℕ → Read ℤ
@@ -69,15 +65,3 @@ section h k bytes =
     repeated 0 (pieces-used (counted n)) (piece h k) rest then λ pieces rest.
     nlq h k rest then λ q rest.
     ended (asked 14 k 0 0 One .name) 3 (record { n = n; preds = padded pivot-places 0 pivots; pieces = padded piece-places zero-piece pieces; nlq = q }) rest
-
--- a section's ranges are made of the header's numbers: under one that does not fit it is refused 4
-abbrev pub under : Header → ℕ → List ℕ → Read Component
-under h k bytes = cond (header-fits h) (section h k bytes) (refused 4 no-name bytes)
-
--- what a section comes to: its component, or where it failed and a component of zeros
-abbrev pub failed : ℕ → ℕ → Name → Found
-failed k place name = record { number = k; place = place; field = name; component = no-component }
-
-unfoldable pub found : List ℕ → Read Component → Found
-found s (refused k name rest) = failed k (length s - length rest) name
-found s (got c rest) = record { number = 0; place = 0; field = no-name; component = c }

@@ -11,7 +11,7 @@ use section::section;
 ghost use mathlib.Core.Path.{_≡_};
 ghost use Prim.Native.Nat.{_≤_};
 ghost use lib.ListN.{length};
-ghost use Rattle.sections.specs.Sections.{found, under, failed};
+ghost use Rattle.sections.specs.inner.Answering.{found, under, failed};
 
 // What a section comes to: 0 and its component, or the refusal's number, the byte and the field where the failure was met, and a
 // component of zeros.

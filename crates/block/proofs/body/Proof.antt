@@ -3,6 +3,7 @@ use mathlib.Core.Path.{sym, ap, _∙_}
 use mathlib.Core.Bool.{_&&_}
 use borrow.Author.Needs.{needs}
 use borrow.Author.Tests.{not-true, not-false}
+use Rattle.plan.proofs.Truths.{both}
 use Rattle.block.specs.Reading.{sections}
 use Rattle.block.proofs.Cascade.{bad-header, good-header}
 use Rattle.block.proofs.body.Statement.{statement}
@@ -17,6 +18,14 @@ returns c =
     let w : tie.After-wrong-column = search needs in
     c .refused .ensures ∙ rw (w .wrong-column .ensures, r .read-header .ensures)
     (bad-header _ _ _ (rw (h .header-fits .ensures, z .zeros-fit .ensures, r .read-header .ensures) at (not-true (h .header-fits .result && z .zeros-fit .result) (e .if1 .taken))))
+
+sections-requires : tie.Need-sections-requires
+sections-requires c κs =
+    let st : tie.Start = search needs in
+    let h : tie.After-header-fits = search needs in
+    let z : tie.After-zeros-fit = search needs in
+    let e : tie.Else1 = search needs in
+    (st .pre, sym (h .header-fits .ensures) ∙ both (h .header-fits .result) (z .zeros-fit .result) (not-false _ (e .if1 .left)) .0)
 
 returns-2 : tie.Need-returns-2
 returns-2 c =
@@ -35,5 +44,5 @@ body-spec =
     (λ c. search needs) (λ c. search needs) (λ c κs. search needs) (λ c κs. search needs)
     (λ c κs. search needs) (λ c κs. search needs) (λ c κs. search needs)
     returns
-    (λ c κs. search needs)
+    sections-requires
     returns-2)

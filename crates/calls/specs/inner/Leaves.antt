@@ -1,4 +1,4 @@
--- The same of the calls that the product's own crates make of each other.
+-- The same of the calls that the product's own crates make of each other, and of the benchmark's.
 use denote.Ref.{now}
 use Rattle.picture.proofs.planes_of.Reads as planes-of-promise
 use Rattle.rules.proofs.extent_of.Reads as extent-of-promise
@@ -21,6 +21,7 @@ use Rattle.rule_seven.proofs.quantizes.Reads as quantizes-promise
 use Rattle.spans.proofs.least.Reads as least-promise
 use Rattle.planes.proofs.plain_planes.Reads as plain-planes-promise
 use Rattle.planes.proofs.enhanced_planes.Reads as enhanced-planes-promise
+use Rattle.speed.proofs.speed_job.Reads as speed-job-promise
 use Rattle.calls.specs.Settled.{OneAnswer, OneContent}
 
 pub record LeavesSettled : Type 0 where
@@ -28,10 +29,10 @@ pub record LeavesSettled : Type 0 where
   pub extent-of : OneAnswer extent-of-promise.Post
   pub is-used : OneAnswer is-used-promise.Post
   pub joined : OneAnswer joined-promise.Post
-  pub looked-up-output : OneContent look-up-promise.Post (λ κs s. now (s .1 .1 .0))
-  pub added-up-output : OneContent add-up-promise.Post (λ κs s. now (s .1 .1 .1 .1 .1 .0))
-  pub looked-up-rows : OneContent look-up-rows-promise.Post (λ κs s. now (s .1 .1 .1 .1 .0))
-  pub added-up-rows : OneContent add-up-rows-promise.Post (λ κs s. now (s .1 .1 .1 .1 .1 .1 .1 .0))
+  pub looked-up-output : OneContent look-up-promise.Post (λ c. now (c .left .1 .1 .0))
+  pub added-up-output : OneContent add-up-promise.Post (λ c. now (c .left .1 .1 .1 .1 .1 .0))
+  pub looked-up-rows : OneContent look-up-rows-promise.Post (λ c. now (c .left .1 .1 .1 .1 .0))
+  pub added-up-rows : OneContent add-up-rows-promise.Post (λ c. now (c .left .1 .1 .1 .1 .1 .1 .1 .0))
   pub lies : OneAnswer lies-promise.Post
   pub mapped-table : OneAnswer mapped-table-promise.Post
   pub residual-table : OneAnswer residual-table-promise.Post
@@ -43,5 +44,8 @@ pub record LeavesSettled : Type 0 where
   pub refusal-of : OneAnswer refusal-of-promise.Post
   pub quantizes : OneAnswer quantizes-promise.Post
   pub least : OneAnswer least-promise.Post
-  pub plain-planes : OneContent plain-planes-promise.Post (λ κs s. now (s .1 .1 .1 .0))
-  pub enhanced-planes : OneContent enhanced-planes-promise.Post (λ κs s. now (s .1 .1 .1 .1 .0))
+  pub plain-planes : OneContent plain-planes-promise.Post (λ c. now (c .left .1 .1 .1 .0))
+  pub enhanced-planes : OneContent enhanced-planes-promise.Post (λ c. now (c .left .1 .1 .1 .1 .0))
+  pub speed-job : OneAnswer speed-job-promise.Post
+  pub speed-output : OneContent speed-job-promise.Post (λ c. let pictures = c .left .1 .1 .1 .1 .1 in now (pictures .1 .1 .0))
+  pub speed-marks : OneContent speed-job-promise.Post (λ c. let pictures = c .left .1 .1 .1 .1 .1 in now (pictures .1 .1 .1 .0))

@@ -6,7 +6,7 @@ use borrow.Author.Needs.{needs}
 use borrow.Author.Tests.{not-true, not-false}
 use Rattle.plan.proofs.Facts.{header-kept}
 use Rattle.sections.specs.declared.Found.{Found}
-use Rattle.sections.specs.Sections.{under, found}
+use Rattle.sections.specs.inner.Answering.{under, found}
 use Rattle.sections.proofs.Making.{unfit-found, stopped-found, ended-found}
 use Rattle.sections.proofs.Fitting.{place-le}
 use Rattle.sections.proofs.read_section.Statement.{statement}
