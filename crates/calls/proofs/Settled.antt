@@ -5,13 +5,13 @@ use mathlib.Core.List.{List}
 use Prim.Native.Nat.{ℕ}
 use lib.ListN.{getD}
 use native.Mathlib.Omega.{arith}
-use Rattle.refusals.specs.Outcomes.{Outcome}
+use Rattle.refusals.specs.Refusals.{Outcome}
 use Rattle.compose.specs.declared.Composed.{Composed}
 use Rattle.compose.specs.declared.Composed.the-variants as composed
 use Rattle.compose.specs.Composing as composing
 use Rattle.jobs.specs.declared.Opened.{Opened}
 use Rattle.jobs.specs.declared.Opened.the-variants as opened
-use Rattle.jobs.specs.Opening.{opened-says}
+use Rattle.jobs.specs.Jobs.{opened-says}
 use Rattle.jobs.specs.declared.Answer.{Answer}
 use Rattle.jobs.specs.declared.Answer.the-variants as answered
 use Rattle.jobs.specs.Jobs as jobs
@@ -51,18 +51,13 @@ settled =
       passes = λ κs a r r' s s' p q. p ∙ sym q;
       empty = λ κs a r r' s s' p q. p .0 ∙ sym (q .0);
       read = λ κs a r r' s s' p q. p .0 ∙ sym (q .0);
-      run-length = λ κs a r r' s s' p q. p ∙ sym q;
-      composed-number = λ κs a r r' s s' p q. p ∙ sym q;
       compose-row-pairs = λ κs a r r' s s' p q. one-composed r r' (p .0 ∙ sym (q .0));
       composed-output = λ κs a r r' s s' p q. p .1 ∙ sym (q .1);
       open-picture = λ κs a r r' s s' p q. one-opened r r' (p .0 ∙ sym (q .0));
       opened-marks = λ κs a r r' s s' p q. p .1 ∙ sym (q .1);
-      opened-number = λ κs a r r' s s' p q. p ∙ sym q;
       compose-job = λ κs a r r' s s' p q. one-job r r' (p .0 ∙ sym (q .0));
       job-output = λ κs a r r' s s' p q. p .1 .0 ∙ sym (q .1 .0);
       job-marks = λ κs a r r' s s' p q. p .1 .1 ∙ sym (q .1 .1);
-      job-number = λ κs a r r' s s' p q. p ∙ sym q;
-      is-complete = λ κs a r r' s s' p q. p ∙ sym q;
     }
 
 pub leaves-settled : LeavesSettled
@@ -92,4 +87,9 @@ leaves-settled =
       speed-job = λ κs a r r' s s' p q. p .0 ∙ sym (q .0);
       speed-output = λ κs a r r' s s' p q. p .1 .0 ∙ sym (q .1 .0);
       speed-marks = λ κs a r r' s s' p q. p .1 .1 ∙ sym (q .1 .1);
+      run-length = λ κs a r r' s s' p q. p ∙ sym q;
+      composed-number = λ κs a r r' s s' p q. p ∙ sym q;
+      opened-number = λ κs a r r' s s' p q. p ∙ sym q;
+      job-number = λ κs a r r' s s' p q. p ∙ sym q;
+      is-complete = λ κs a r r' s s' p q. p ∙ sym q;
     }

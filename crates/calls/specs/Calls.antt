@@ -3,10 +3,9 @@
 use mathlib.Core.List.{List}
 use Prim.Native.Nat.{ℕ}
 use denote.Ref.{now}
-use Rattle.refusals.specs.Outcomes.{Outcome}
+use Rattle.refusals.specs.Refusals.{Outcome}
 use Rattle.plan.specs.declared.Plan.{Plan}
-use Rattle.jobs.specs.Jobs.{Job, job, says}
-use Rattle.jobs.specs.Opening.{opened-says}
+use Rattle.jobs.specs.Jobs.{Job, job, says, opened-says}
 use Rattle.jobs.proofs.open_picture.Reads as opening
 use Rattle.jobs.proofs.compose_job.Reads as composing
 

@@ -7,14 +7,9 @@ use denote.Ref.{now}
 use Rattle.rule_seven.proofs.passes.Reads as passes-promise
 use Rattle.plan.proofs.empty.Reads as empty-promise
 use Rattle.block.proofs.read.Reads as read-promise
-use Rattle.compose.proofs.picture_size.Reads as run-length-promise
-use Rattle.compose.proofs.number.Reads as composed-number-promise
 use Rattle.compose.proofs.compose_row_pairs.Reads as compose-row-pairs-promise
 use Rattle.jobs.proofs.open_picture.Reads as open-picture-promise
-use Rattle.jobs.proofs.opened_number.Reads as opened-number-promise
 use Rattle.jobs.proofs.compose_job.Reads as compose-job-promise
-use Rattle.jobs.proofs.number.Reads as job-number-promise
-use Rattle.jobs.proofs.is_complete.Reads as is-complete-promise
 use Rattle.calls.specs.Calls.{Ended, marks-opened, afterwards}
 
 -- of a promise: two calls that were handed the same answer the same, and leave the same in a run that they were lent
@@ -28,20 +23,15 @@ module _ {K : Type 0} {Handed Answered Left : K → Type 0} (Post : (κs : K) �
   abbrev pub OneContent : (Ended Post → List ℕ) → Type 0
   OneContent lent = (κs : K) (a : Handed κs) (r r' : Answered κs) (s s' : Left κs) (p : Post κs a r s) (q : Post κs a r' s') → lent (ended κs a r s p) ≡ lent (ended κs a r' s' q)
 
--- the answer of each call that a user makes, and the content of each run that one writes
+-- the answer of each call that reads or writes something of a user's, and the content of each run that one writes
 pub record Settled : Type 0 where
   pub passes : OneAnswer passes-promise.Post
   pub empty : OneAnswer empty-promise.Post
   pub read : OneAnswer read-promise.Post
-  pub run-length : OneAnswer run-length-promise.Post
-  pub composed-number : OneAnswer composed-number-promise.Post
   pub compose-row-pairs : OneAnswer compose-row-pairs-promise.Post
   pub composed-output : OneContent compose-row-pairs-promise.Post (λ c. let pictures = c .left .1 .1 .1 in now (pictures .1 .1 .0))
   pub open-picture : OneAnswer open-picture-promise.Post
   pub opened-marks : OneContent open-picture-promise.Post marks-opened
-  pub opened-number : OneAnswer opened-number-promise.Post
   pub compose-job : OneAnswer compose-job-promise.Post
   pub job-output : OneContent compose-job-promise.Post (λ c. afterwards c .output)
   pub job-marks : OneContent compose-job-promise.Post (λ c. afterwards c .marks)
-  pub job-number : OneAnswer job-number-promise.Post
-  pub is-complete : OneAnswer is-complete-promise.Post

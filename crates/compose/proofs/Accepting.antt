@@ -7,7 +7,7 @@ use lib.ListN.{length}
 use borrow.Author.Tests.{ne-eqb}
 use Rattle.runs.specs.Runs.{painted}
 use Rattle.runs.proofs.Painting.{painted-cong}
-use Rattle.refusals.specs.Outcomes.{Outcome, granted, denied}
+use Rattle.refusals.specs.Refusals.{Outcome, granted, denied}
 use Rattle.refusals.proofs.Laws.{outcome-granted, outcome-denied}
 use Rattle.picture.specs.Picture.{in-pairs}
 use Rattle.picture.specs.inner.Planes.{InPicture}

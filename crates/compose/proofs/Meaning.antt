@@ -11,8 +11,7 @@ use Rattle.runs.specs.inner.Loops.{at}
 use Rattle.runs.proofs.Between.{between-true}
 use Rattle.runs.proofs.Painting.{painted-cong, length-painted}
 use Rattle.standard.specs.Mapping.{mapped}
-use Rattle.standard.specs.Residual.{residual}
-use Rattle.standard.specs.Reconstruction.{reconstructed}
+use Rattle.standard.specs.Residual.{residual, reconstructed}
 use Rattle.picture.specs.declared.Extent.{Extent}
 use Rattle.picture.specs.declared.Plane.{Plane}
 use Rattle.picture.specs.Picture.{of-plane, in-pairs}

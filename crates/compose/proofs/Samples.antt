@@ -8,8 +8,7 @@ use lib.ListN.{length}
 use Rattle.runs.specs.Runs.{between}
 use Rattle.runs.specs.inner.Loops.{at}
 use Rattle.standard.specs.Mapping.{mapped}
-use Rattle.standard.specs.Residual.{residual}
-use Rattle.standard.specs.Reconstruction.{reconstructed}
+use Rattle.standard.specs.Residual.{residual, reconstructed}
 use Rattle.picture.specs.declared.Extent.{Extent}
 use Rattle.picture.specs.declared.Plane.{Plane}
 use Rattle.picture.specs.Picture.{of-plane, in-pairs}

@@ -6,10 +6,9 @@ use lib.Dec.{eqb}
 use lib.IntN.{ℤ, pos}
 use lib.ListN.{length, getD}
 use Rattle.runs.specs.Runs.{painted}
-use Rattle.refusals.specs.Outcomes.{Outcome, granted, denied, outcome}
+use Rattle.refusals.specs.Refusals.{Outcome, granted, denied, outcome}
 use Rattle.standard.specs.Mapping.{mapped}
-use Rattle.standard.specs.Residual.{residual}
-use Rattle.standard.specs.Reconstruction.{reconstructed}
+use Rattle.standard.specs.Residual.{residual, reconstructed}
 use Rattle.picture.specs.Picture.{of-plane, pair-at}
 use Rattle.plan.specs.declared.Component.{Component}
 use Rattle.plan.specs.declared.Plan.{Plan}

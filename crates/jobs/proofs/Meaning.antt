@@ -8,14 +8,14 @@ use lib.Dec.{eqb}
 use lib.ListN.{length}
 use borrow.Author.Tests.{eq-eqb, ne-eqb}
 use Rattle.runs.specs.Runs.{painted, between, tally}
-use Rattle.refusals.specs.Outcomes.{Outcome, granted, denied}
+use Rattle.refusals.specs.Refusals.{Outcome, granted, denied}
 use Rattle.refusals.proofs.Laws.{outcome-granted, outcome-denied}
 use Rattle.picture.specs.Picture.{pair-at}
 use Rattle.plan.specs.Rule7.{fitting}
 use Rattle.rules.specs.Rules.{extent, names, rules, refusal}
 use Rattle.compose.specs.Composing as composing
 use Rattle.jobs.specs.Jobs.{Job, job-refusal, accepted, sample, output-after, marks-after, job-answer}
-use Rattle.marks.specs.Marks.{done, is-waiting}
+use Rattle.marks.specs.inner.Marks.{done, is-waiting}
 
 -- an answer, an output and marks are those that the definitions give
 abbrev pub Ends : Job → List ℕ → List ℕ → Outcome → List ℕ → List ℕ → Type 0

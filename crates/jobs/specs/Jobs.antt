@@ -1,4 +1,4 @@
--- A row job: its refusals, its answer, and what it leaves in the output and in the marks.
+-- An opening and a row job: their refusals, their answers, and what they leave in the output and in the marks.
 use mathlib.Core.Path.{_≡_}
 use mathlib.Core.Bool.{Bool, true, false, not, _&&_, cond}
 use mathlib.Core.List.{List, [], _∷_}
@@ -6,15 +6,35 @@ use Prim.Native.Nat.{ℕ, _<_}
 use lib.Dec.{eqb}
 use lib.ListN.{length, getD}
 use Rattle.runs.specs.Runs.{painted, tally}
-use Rattle.refusals.specs.Refusals.{Rule, rule, first-met}
-use Rattle.refusals.specs.Outcomes.{Outcome, granted, denied, outcome}
-use Rattle.marks.specs.Marks.{done, is-waiting}
+use Rattle.refusals.specs.Refusals.{Rule, rule, first-met, Outcome, granted, denied, outcome}
 use Rattle.picture.specs.Picture.{pair-at}
 use Rattle.plan.specs.declared.Plan.{Plan}
+use Rattle.plan.specs.Rule7.{fitting}
 use Rattle.rules.specs.Rules.{Given, given, extent, names, rules}
 use Rattle.compose.specs.Composing.{composes, composed-at}
+use Rattle.jobs.specs.declared.Opened.{Opened}
+use Rattle.jobs.specs.declared.Opened.the-variants as opened
 use Rattle.jobs.specs.declared.Answer.{Answer}
 use Rattle.jobs.specs.declared.Answer.the-variants.{Done, Refused}
+
+-- an opening tests rules 7 and 9, the latter on the marks alone
+unfoldable pub opening-refusal : Plan → ℕ → ℕ
+opening-refusal p marks-length = first-met (rule 7 (not (fitting p)) ∷ rule 9 (not (eqb marks-length (p .header .pairs))) ∷ [])
+
+unfoldable pub opening-accepted : Plan → ℕ → Bool
+opening-accepted p marks-length = eqb (opening-refusal p marks-length) 0
+
+-- what each case of the answer says: the ticket handed back, or the refusal's number alone
+abbrev pub opened-says : Opened → Outcome
+opened-says (opened.Open ticket) = granted (ticket ∷ [])
+opened-says (opened.Refused k) = denied k
+
+unfoldable pub opening-answer : Plan → ℕ → ℕ → Outcome
+opening-answer p ticket marks-length = outcome (opening-refusal p marks-length) (ticket ∷ [])
+
+-- every mark is 0 afterwards: its row pair waits; a refused opening writes nothing
+unfoldable pub opening-marks : Plan → List ℕ → List ℕ
+opening-marks p marks = cond (opening-accepted p (length marks)) (painted (λ k. true) (λ k. 0) marks) marks
 
 -- what a job is given, besides the output and the marks: its work, the opened picture's ticket and its own
 pub record Job : Type 0 where
@@ -49,17 +69,17 @@ output-after j output marks =
     output
 
 unfoldable pub marks-after : Job → List ℕ → List ℕ → List ℕ
-marks-after j output marks = cond (accepted j (length output) (length marks)) (painted (names (j .work)) done marks) marks
+marks-after j output marks = cond (accepted j (length output) (length marks)) (painted (names (j .work)) (λ k. 1) marks) marks
 
 -- what each case of the answer says: done, with the rows left, or refused, with the number alone
 abbrev pub says : Answer → Outcome
 says (Done left) = granted (left ∷ [])
 says (Refused k) = denied k
 
--- rows left: the zero marks after the job
+-- rows left: the marks that are 0 after the job; any other value is done
 unfoldable pub job-answer : Job → List ℕ → List ℕ → Outcome
 job-answer j output marks =
-    outcome (job-refusal j (length output) (length marks)) (tally is-waiting (marks-after j output marks) ∷ [])
+    outcome (job-refusal j (length output) (length marks)) (tally (λ mark. eqb mark 0) (marks-after j output marks) ∷ [])
 
 abbrev pub rows-left : Outcome → ℕ
 rows-left o = getD (o .values) 0 0

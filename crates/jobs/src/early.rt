@@ -5,7 +5,7 @@ ghost use mathlib.Core.Path.{_≡_};
 ghost use mathlib.Core.Bool.{cond};
 ghost use lib.Dec.{eqb};
 ghost use Rattle.plan.specs.Rule7.{fitting};
-ghost use Rattle.jobs.specs.Opening.{opening-refusal};
+ghost use Rattle.jobs.specs.Jobs.{opening-refusal};
 
 // Rule 7 comes before every other: 7 where the plan meets it, and otherwise the number given.
 pub(crate) fn seven_or(plan: Plan, number: u8) -> u8

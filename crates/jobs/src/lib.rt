@@ -11,8 +11,7 @@ use marks::waiting;
 use plan::Plan;
 ghost use mathlib.Core.Path.{_≡_};
 ghost use lib.ListN.{length};
-ghost use Rattle.jobs.specs.Jobs.{job, says, job-answer, output-after, marks-after, complete, EverySample};
-ghost use Rattle.jobs.specs.Opening.{opened-says, opening-answer, opening-marks};
+ghost use Rattle.jobs.specs.Jobs.{job, says, job-answer, output-after, marks-after, complete, EverySample, opened-says, opening-answer, opening-marks};
 
 // An opening hands its ticket back as the opened picture's, or is refused by a number.
 pub enum Opened {

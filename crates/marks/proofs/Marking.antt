@@ -7,8 +7,7 @@ use lib.Dec.{leb}
 use lib.ListN.{length}
 use borrow.Author.Tests.{le-leb, lt-leb}
 use Rattle.runs.specs.Runs.{painted, between}
-use Rattle.marks.specs.Marks.{done}
-use Rattle.marks.specs.inner.Marked.{marked}
+use Rattle.marks.specs.inner.Marks.{done, marked}
 
 module _ (first last : ℕ) (marks : List ℕ) where
   pub all-marked : first ≤ last → last ≤ length marks → marked first last marks ≡ painted (between first last) done marks

@@ -3,8 +3,7 @@ ghost use mathlib.Core.Path.{_≡_};
 ghost use Prim.Native.Nat.{_≤_};
 ghost use lib.ListN.{length};
 ghost use Rattle.runs.specs.Runs.{painted, between, tally};
-ghost use Rattle.marks.specs.Marks.{every-pair, waiting, is-waiting};
-ghost use Rattle.marks.specs.inner.Marked.{marked};
+ghost use Rattle.marks.specs.inner.Marks.{every-pair, waiting, is-waiting, marked};
 
 // Writes a value to the marks from `from` up to, but not including, `to`.
 fn put(value: u8, from: usize, to: usize, marks: &mut [u8])

@@ -5,14 +5,12 @@ use mathlib.Core.List.{List, [], _∷_}
 use Prim.Native.Nat.{ℕ, zero, suc}
 use lib.Dec.{eqb}
 use lib.ListN.{length}
-use Rattle.refusals.specs.Outcomes.{Outcome, granted, outcome}
+use Rattle.refusals.specs.Refusals.{Outcome, granted, outcome}
 use Rattle.plan.specs.declared.Plan.{Plan}
-use Rattle.jobs.specs.Opening.{opening-accepted, opening-answer, opening-refusal}
-use Rattle.jobs.specs.Jobs.{Job, job-answer}
+use Rattle.jobs.specs.Jobs.{Job, job-answer, opening-accepted, opening-answer, opening-refusal}
 use Rattle.calls.specs.Calls.{Memory, memory, OpenCall, opening-plan, opening-ticket, marks-before, marks-opened, opening-said}
 use Rattle.calls.specs.Calls.{JobCall, job-of, before, afterwards, said}
-use Rattle.night.specs.Night.{step, run, opened, Leaves}
-use Rattle.night.specs.Calls.{Calls, none, more, answers, AnyChainOfCalls}
+use Rattle.night.specs.Night.{step, run, opened, Leaves, Calls, none, more, answers, AnyChainOfCalls}
 use Rattle.night.proofs.Night.{standby-night}
 
 as-run : {m n : Memory} {js : List Job} {os : List Outcome} → Calls m js os n → (n ≡ run js m) × (os ≡ answers js m)

@@ -10,8 +10,8 @@ use lib.Seq.{take-length}
 use Rattle.runs.specs.Runs.{painted, tally}
 use Rattle.runs.proofs.Counting.{tally-more}
 use Rattle.runs.proofs.Painting.{length-painted, at-painted}
-use Rattle.marks.specs.Marks.{done, is-waiting}
-use Rattle.marks.specs.Marks.{every-pair, waiting}
+use Rattle.marks.specs.inner.Marks.{done, is-waiting}
+use Rattle.marks.specs.inner.Marks.{every-pair, waiting}
 use Rattle.night.specs.Night.{count-below}
 
 -- a count over a list is a count over its indices

@@ -9,18 +9,16 @@ use lib.ListN.{length, getD}
 use borrow.Author.Tests.{eqb-true}
 use Rattle.runs.specs.Runs.{painted, tally}
 use Rattle.runs.proofs.Painting.{length-painted, at-painted, painted-over, painted-none, painted-cong}
-use Rattle.refusals.specs.Refusals.{rule, first-met}
-use Rattle.refusals.specs.Outcomes.{Outcome, granted, outcome}
+use Rattle.refusals.specs.Refusals.{rule, first-met, Outcome, granted, outcome}
 use Rattle.refusals.proofs.Laws.{none-met, not-off, outcome-granted}
 use Rattle.picture.specs.Picture.{pair-at}
 use Rattle.plan.specs.declared.Plan.{Plan}
 use Rattle.plan.specs.Rule7.{fitting}
 use Rattle.rules.specs.Rules.{extent, names}
 use Rattle.compose.specs.Composing.{composed-at}
-use Rattle.jobs.specs.Opening.{opening-refusal, opening-accepted, opening-marks}
-use Rattle.marks.specs.Marks.{every-pair, waiting}
-use Rattle.jobs.specs.Jobs.{Job, job-refusal, accepted, sample, output-after, marks-after, job-answer, complete}
-use Rattle.marks.specs.Marks.{done, is-waiting}
+use Rattle.marks.specs.inner.Marks.{every-pair, waiting}
+use Rattle.jobs.specs.Jobs.{Job, job-refusal, accepted, sample, output-after, marks-after, job-answer, complete, opening-refusal, opening-accepted, opening-marks}
+use Rattle.marks.specs.inner.Marks.{done, is-waiting}
 use Rattle.jobs.proofs.Samples.{same-sample}
 use Rattle.calls.specs.Calls.{Memory}
 use Rattle.night.specs.Night.{step, run, opened, named, count-below, rows-left-after, Keeps, AllKeep, none, more, Sent, here, later, Leaves, StandbyNight}

@@ -1,3 +1,2 @@
 pub mod Night
-pub mod Calls
 pub mod FourRows

@@ -1,6 +1,5 @@
 // Theorems on the calls of a night. Each function computes nothing: its promise is the theorem.
-ghost use Rattle.night.specs.Night.{StandbyNight};
-ghost use Rattle.night.specs.Calls.{AnyChainOfCalls};
+ghost use Rattle.night.specs.Night.{StandbyNight, AnyChainOfCalls};
 ghost use Rattle.night.specs.FourRows.{FourRows};
 
 // Demand 3, of every plan, picture, memory and sequence of jobs after an accepted opening.

@@ -69,10 +69,10 @@ component-facts h c s e =
     let piece : (i : ℕ) → PieceFacts h (getD (c .pieces) i no-piece) =
     anywhere (PieceFacts h) (c .pieces) no-piece (s .pieces)
     (record { order = omega arith; coefficient = λ i. omega arith; unused = λ z. refl })
-    (λ i b. piece-kept h (ltb i (pieces-used c)) _ (s .row i b) (every-at _ 17 (p .0) i b)) in
+    (λ i b. piece-kept h (ltb i (pieces-used (c .n))) _ (s .row i b) (every-at _ 17 (p .0) i b)) in
     record {
       count = leb-true _ 15 (n .0);
-      pivot = anywhere (λ (x : ℕ). x < 2 ^ (h .bl + 8)) (c .preds) 0 (s .preds) (pow-pos (h .bl + 8)) (λ i b. place-below (ltb i (pivots-used c)) _ _ (pow-pos (h .bl + 8)) (every-at _ 17 (v .0) i b));
+      pivot = anywhere (λ (x : ℕ). x < 2 ^ (h .bl + 8)) (c .preds) 0 (s .preds) (pow-pos (h .bl + 8)) (λ i b. place-below (ltb i (pivots-used (c .n))) _ _ (pow-pos (h .bl + 8)) (every-at _ 17 (v .0) i b));
       order = λ i. piece i .order;
       coefficient = λ i. piece i .coefficient;
       unused = λ i. piece i .unused;

@@ -16,10 +16,4 @@ mapping c =
     }
 
 abbrev pub quantization : Nlq → Quantization
-quantization q =
-    record {
-      nlq-offset = q .offset;
-      fp-hdr-in-max = q .maximum;
-      fp-linear-deadzone-slope = q .slope;
-      fp-linear-deadzone-threshold = q .threshold;
-    }
+quantization q = record { nlq-offset = q .offset; fp-hdr-in-max = q .maximum; fp-linear-deadzone-slope = q .slope; fp-linear-deadzone-threshold = q .threshold }

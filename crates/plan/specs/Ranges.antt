@@ -36,17 +36,14 @@ el-depth h = h .el + 8
 abbrev pub hdr-depth : Header → ℕ
 hdr-depth h = h .hdr + 8
 
--- Annex A lists ccm_profile 1, 3 and 4, and ccm_level 0
+-- Annex A lists ccm_profile 1, 3 and 4
 abbrev pub listed-profile : ℕ → Bool
 listed-profile v = eqb v 1 || (eqb v 3 || eqb v 4)
 
-abbrev pub listed-level : ℕ → Bool
-listed-level v = eqb v 0
-
--- header bytes 0 to 6: profile and level, d from EL_bit_depth + 5 to 32, the depths, the flag
+-- header bytes 0 to 6: profile and level, of which Annex A lists 0, d from EL_bit_depth + 5 to 32, the depths, the flag
 abbrev pub format-tests : Header → List Bool
 format-tests h =
-    listed-profile (h .profile) ∷ listed-level (h .level)
+    listed-profile (h .profile) ∷ eqb (h .level) 0
     ∷ (eqb (h .bl) 0 || eqb (h .bl) 2) ∷ (eqb (h .el) 0 || eqb (h .el) 2) ∷ eqb (h .bl) (h .el)
     ∷ within (el-depth h + 5) 32 (h .d)
     ∷ (eqb (h .hdr) 2 || eqb (h .hdr) 4) ∷ leb (h .disabled) 1 ∷ []

@@ -27,15 +27,15 @@ piece-places = 17
 abbrev pub row-places : ℕ
 row-places = 3
 
--- n + 2 pivots, n + 1 pieces, poly_order_minus1 + 2 coefficients are used
-abbrev pub pivots-used : Component → ℕ
-pivots-used c = c .n + 2
+-- of num_pivots_minus2 n + 2 pivots and n + 1 pieces are used, of poly_order_minus1 order + 2 coefficients
+abbrev pub pivots-used : ℕ → ℕ
+pivots-used n = n + 2
 
-abbrev pub pieces-used : Component → ℕ
-pieces-used c = c .n + 1
+abbrev pub pieces-used : ℕ → ℕ
+pieces-used n = n + 1
 
-abbrev pub coefficients-used : Piece → ℕ
-coefficients-used q = q .order + 2
+abbrev pub coefficients-used : ℕ → ℕ
+coefficients-used order = order + 2
 
 -- what stands past the places of an array
 abbrev pub no-piece : Piece
@@ -52,7 +52,7 @@ row-fits h k row =
 
 -- a piece that is used
 unfoldable pub piece-fits : Header → Piece → Bool
-piece-fits h q = eqb (q .idc) 0 && (order-fits (q .order) && row-fits h (coefficients-used q) (q .row))
+piece-fits h q = eqb (q .idc) 0 && (order-fits (q .order) && row-fits h (coefficients-used (q .order)) (q .row))
 
 -- a place for a piece that is not used: all of it is 0
 unfoldable pub piece-empty : Header → Piece → Bool
@@ -61,12 +61,12 @@ piece-empty h q = eqb (q .idc) 0 && (eqb (q .order) 0 && row-fits h 0 (q .row))
 unfoldable pub pivots-fit : Header → Component → Bool
 pivots-fit h c =
     every pivot-places
-    (λ i. cond (ltb i (pivots-used c)) (pivot-fits h (getD (c .preds) i 0)) (eqb (getD (c .preds) i 0) 0))
+    (λ i. cond (ltb i (pivots-used (c .n))) (pivot-fits h (getD (c .preds) i 0)) (eqb (getD (c .preds) i 0) 0))
 
 unfoldable pub pieces-fit : Header → Component → Bool
 pieces-fit h c =
     every piece-places
-    (λ p. cond (ltb p (pieces-used c)) (piece-fits h (getD (c .pieces) p no-piece)) (piece-empty h (getD (c .pieces) p no-piece)))
+    (λ p. cond (ltb p (pieces-used (c .n))) (piece-fits h (getD (c .pieces) p no-piece)) (piece-empty h (getD (c .pieces) p no-piece)))
 
 abbrev pub nlq-tests : Header → Nlq → List Bool
 nlq-tests h q = offset-fits h (q .offset) ∷ unsigned-fits h (q .maximum) ∷ unsigned-fits h (q .slope) ∷ unsigned-fits h (q .threshold) ∷ []
@@ -92,13 +92,7 @@ abbrev pub zero-piece : Piece
 zero-piece = record { idc = 0; order = 0; row = replicate row-places (pos 0) }
 
 abbrev pub no-component : Component
-no-component =
-    record {
-      n = 0;
-      preds = replicate pivot-places 0;
-      pieces = replicate piece-places zero-piece;
-      nlq = record { offset = 0; maximum = 0; slope = 0; threshold = 0 };
-    }
+no-component = record { n = 0; preds = replicate pivot-places 0; pieces = replicate piece-places zero-piece; nlq = record { offset = 0; maximum = 0; slope = 0; threshold = 0 } }
 
 unfoldable pub no-plan : Plan
 no-plan =

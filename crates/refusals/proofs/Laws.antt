@@ -5,8 +5,7 @@ use mathlib.Core.List.{List, [], _∷_, _++_}
 use Prim.Native.Nat.{ℕ, zero, suc}
 use native.Mathlib.Omega.{arith}
 use lib.Dec.{eqb}
-use Rattle.refusals.specs.Refusals.{Rule, rule, first-met}
-use Rattle.refusals.specs.Outcomes.{Outcome, outcome, granted, denied}
+use Rattle.refusals.specs.Refusals.{Rule, rule, first-met, Outcome, outcome, granted, denied}
 
 -- no rule of a list is met
 abbrev pub Unmet : List Rule → Type 0

@@ -9,8 +9,7 @@ use lib.IntN.{ℤ, pos, natAbs}
 use lib.Pow.{pow-mono}
 use Rattle.runs.specs.inner.Loops.{at}
 use Rattle.runs.proofs.Tables.{at-table, coded-in}
-use Rattle.standard.specs.Residual.{residual}
-use Rattle.standard.specs.Reconstruction.{reconstructed}
+use Rattle.standard.specs.Residual.{residual, reconstructed}
 use Rattle.standard.proofs.Residuals.{residual-le}
 use Rattle.plan.specs.declared.Header.{Header}
 use Rattle.plan.specs.declared.Nlq.{Nlq}

@@ -13,7 +13,7 @@ use borrow.Author.Tests.{ltb-true, ltb-false}
 use Rattle.runs.proofs.Between.{lt-or-ge}
 use Rattle.words.proofs.Bounds.{add-in}
 use Rattle.standard.specs.Mapping.{from-zero}
-use Rattle.standard.specs.Reconstruction.{reconstructed}
+use Rattle.standard.specs.Residual.{reconstructed}
 use Rattle.residual.specs.inner.Raising.{raised, lowered}
 
 -- a difference after the shift is one before it

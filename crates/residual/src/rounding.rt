@@ -2,7 +2,7 @@
 ghost use mathlib.Core.Path.{_≡_};
 ghost use Prim.Native.Nat.{_≤_, _^_};
 ghost use lib.IntN.{pos, natAbs};
-ghost use Rattle.standard.specs.Reconstruction.{reconstructed};
+ghost use Rattle.standard.specs.Residual.{reconstructed};
 ghost use Rattle.residual.specs.inner.Raising.{raised};
 
 pub(crate) fn power(k: u32) -> u64

@@ -16,7 +16,7 @@ use Rattle.fields.specs.declared.Width.the-variants.{One, Two, Four}
 use Rattle.fields.specs.Fields.{Read, refused, got, repeated}
 use Rattle.fields.proofs.Giving.{Each, Gives, then-gives, field-gives, repeated-gives, ended-gives}
 use Rattle.section_fields.specs.Fields.{asked, ranged, integer-fits, refused-idc}
-use Rattle.sections.specs.Sections.{coefficient, unsigned, idc, piece, pivot, nlq, counted, section}
+use Rattle.sections.specs.Sections.{coefficient, unsigned, idc, piece, pivot, nlq, section}
 use Rattle.sections.specs.inner.Answering.{found}
 use Rattle.sections.proofs.Places.{and, places}
 use Rattle.sections.proofs.Ranged.{unsigned-in, coefficient-in}
@@ -53,7 +53,7 @@ module _ (h : Header) (k : ℕ) where
   piece-gives p bytes =
       then-gives (λ v. eqb v 0 ≡ true) _ (idc k p bytes) _ (field-gives (asked 3 k p 0 One) (λ v. eqb v 0) (refused-idc k) (λ z. omega arith) (some-rule k) bytes)
       (λ m a rest. then-gives (λ v. order-fits v ≡ true) _ (ranged (asked 4 k p 0 One) order-fits rest) _ (in-range 4 k p 0 One order-fits rest)
-      (λ o b rest. let used = coefficients-used (record { idc = m; order = o; row = [] }) in
+      (λ o b rest. let used = coefficients-used o in
       then-gives (λ l. (length l ≡ used) × Each (λ z. coefficient-fits h z ≡ true) l) _ (repeated 0 used (coefficient h k p) rest) _ (repeated-gives _ 0 used (coefficient h k p) (coefficient-gives p) rest)
       (λ row t rest. and a (and b (places (coefficient-fits h) is-zero (pos 0) (pos 0) refl row-places used row (t .0) (t .1))))))
 
@@ -75,9 +75,9 @@ module _ (h : Header) (k : ℕ) where
   unfolding section component-fits pivots-fit pieces-fit
   section-gives bytes =
       then-gives (λ v. count-fits v ≡ true) _ (ranged (asked 1 k 0 0 One) count-fits bytes) _ (in-range 1 k 0 0 One count-fits bytes)
-      (λ n a rest. let several = pivots-used (counted n) in
+      (λ n a rest. let several = pivots-used n in
       then-gives (λ l. (length l ≡ several) × Each (λ v. pivot-fits h v ≡ true) l) _ (repeated 0 several (pivot h k) rest) _ (repeated-gives _ 0 several (pivot h k) (λ i. in-range 2 k i 0 Two (pivot-fits h)) rest)
-      (λ l b rest. let used = pieces-used (counted n) in
+      (λ l b rest. let used = pieces-used n in
       then-gives (λ l. (length l ≡ used) × Each (λ q. piece-fits h q ≡ true) l) _ (repeated 0 used (piece h k) rest) _ (repeated-gives _ 0 used (piece h k) piece-gives rest)
       (λ m d rest. then-gives (λ q. nlq-fits h q ≡ true) _ (nlq h k rest) _ (nlq-gives rest)
       (λ q e rest. ended-gives (λ c. component-fits h c ≡ true) _ 3 _ (λ z. omega arith)

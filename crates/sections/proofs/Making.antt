@@ -21,7 +21,7 @@ use Rattle.fields.specs.inner.Cursors.{start, from, Reads, filled}
 use Rattle.fields.proofs.Following.{joined, done}
 use Rattle.fields.proofs.Filling.{listed}
 use Rattle.section_fields.specs.Fields.{asked, ranged, signed, integer-fits}
-use Rattle.sections.specs.Sections.{coefficient, unsigned, idc, piece, pivot, nlq, counted, section}
+use Rattle.sections.specs.Sections.{coefficient, unsigned, idc, piece, pivot, nlq, section}
 use Rattle.sections.specs.inner.Answering.{under, failed, found}
 
 module _ {s : List ℕ} (h : Header) (k : ℕ) {c c1 c2 : Cursor} where
@@ -36,23 +36,23 @@ module _ {s : List ℕ} (h : Header) (k : ℕ) {c c1 c2 : Cursor} where
   made-unsigned kind one n f d x y r t = rw d (joined _ (rw x at r) (joined _ (rw y at t) done))
 
   pub made-piece : (p m o : ℕ) {x : Ask} {row : List ℤ} {c3 : Cursor} → x ≡ asked 4 k p 0 One → Reads s c (idc k p) m c1 → Reads s c1 (ranged x order-fits) o c2
-      → Reads s c2 (filled row-places (pos 0) (coefficients-used (record { idc = m; order = o; row = [] })) (coefficient h k p)) row c3
+      → Reads s c2 (filled row-places (pos 0) (coefficients-used o) (coefficient h k p)) row c3
       → Reads s c (piece h k p) (record { idc = m; order = o; row = row }) c3
   unfolding piece
   made-piece p m o x a b r =
       joined _ a
       (joined _ (rw x at b)
-      (listed row-places (pos 0) (coefficients-used (record { idc = m; order = o; row = [] })) (coefficient h k p) (λ row rest. got (record { idc = m; order = o; row = row }) rest) r done))
+      (listed row-places (pos 0) (coefficients-used o) (coefficient h k p) (λ row rest. got (record { idc = m; order = o; row = row }) rest) r done))
 
   pub made-section : (n : ℕ) {x y : Ask} {preds : List ℕ} {pieces : List Piece} {residual : Nlq} {c3 c4 c5 : Cursor} → x ≡ asked 1 k 0 0 One → y ≡ asked 14 k 0 0 One
-      → Reads s c (ranged x count-fits) n c1 → Reads s c1 (filled pivot-places 0 (pivots-used (counted n)) (pivot h k)) preds c2
-      → Reads s c2 (filled piece-places zero-piece (pieces-used (counted n)) (piece h k)) pieces c3 → Reads s c3 (nlq h k) residual c4
+      → Reads s c (ranged x count-fits) n c1 → Reads s c1 (filled pivot-places 0 (pivots-used n) (pivot h k)) preds c2
+      → Reads s c2 (filled piece-places zero-piece (pieces-used n) (piece h k)) pieces c3 → Reads s c3 (nlq h k) residual c4
       → ((a : Component) → Reads s c4 (ended (y .name) 3 a) a c5) → Reads s c (section h k) (record { n = n; preds = preds; pieces = pieces; nlq = residual }) c5
   unfolding section
   made-section n {preds = preds} {pieces} {residual} x y a b d e f =
       joined _ (rw x at a)
-      (listed pivot-places 0 (pivots-used (counted n)) (pivot h k) (λ l rest. repeated 0 (pieces-used (counted n)) (piece h k) rest then λ p rest. nlq h k rest then λ q rest. ended (asked 14 k 0 0 One .name) 3 (record { n = n; preds = l; pieces = padded piece-places zero-piece p; nlq = q }) rest) b
-      (listed piece-places zero-piece (pieces-used (counted n)) (piece h k) (λ p rest. nlq h k rest then λ q rest. ended (asked 14 k 0 0 One .name) 3 (record { n = n; preds = preds; pieces = p; nlq = q }) rest) d
+      (listed pivot-places 0 (pivots-used n) (pivot h k) (λ l rest. repeated 0 (pieces-used n) (piece h k) rest then λ p rest. nlq h k rest then λ q rest. ended (asked 14 k 0 0 One .name) 3 (record { n = n; preds = l; pieces = padded piece-places zero-piece p; nlq = q }) rest) b
+      (listed piece-places zero-piece (pieces-used n) (piece h k) (λ p rest. nlq h k rest then λ q rest. ended (asked 14 k 0 0 One .name) 3 (record { n = n; preds = preds; pieces = p; nlq = q }) rest) d
       (joined _ e (rw y at (f (record { n = n; preds = preds; pieces = pieces; nlq = residual }))))))
 
 pub unfit-found : (s : List ℕ) (h : Header) (k : ℕ) → header-fits h ≡ false → failed 4 0 no-name ≡ found s (under h k s)

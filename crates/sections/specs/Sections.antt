@@ -1,5 +1,5 @@
 -- A section of the composing block (the house rules): pivots, pieces and the residual's numbers of one component.
-use mathlib.Core.List.{List, []}
+use mathlib.Core.List.{List}
 use Prim.Native.Nat.{ℕ, _+_, _*_, _^_}
 use lib.Dec.{leb, ltb, eqb}
 use lib.IntN.{ℤ, pos}
@@ -9,7 +9,7 @@ use Rattle.plan.specs.declared.Piece.{Piece}
 use Rattle.plan.specs.declared.Nlq.{Nlq}
 use Rattle.plan.specs.declared.Component.{Component}
 use Rattle.plan.specs.Ranges.{count-fits, pivot-fits, order-fits, offset-fits, fraction-fits}
-use Rattle.plan.specs.Rule7.{pivot-places, piece-places, row-places, pivots-used, pieces-used, coefficients-used, zero-piece, no-component}
+use Rattle.plan.specs.Rule7.{pivot-places, piece-places, row-places, pivots-used, pieces-used, coefficients-used, zero-piece}
 use Rattle.fields.specs.declared.Width.the-variants.{One, Two, Four}
 use Rattle.fields.specs.Fields.{Read, got, _then_, field, repeated, padded, ended}
 use Rattle.section_fields.specs.Fields.{asked, ranged, signed, integer-fits, refused-idc}
@@ -37,7 +37,7 @@ unfoldable pub piece : Header → ℕ → ℕ → List ℕ → Read Piece
 piece h k p bytes =
     idc k p bytes then λ m rest.
     ranged (asked 4 k p 0 One) order-fits rest then λ o rest.
-    repeated 0 (coefficients-used (record { idc = m; order = o; row = [] })) (coefficient h k p) rest then λ row rest.
+    repeated 0 (coefficients-used o) (coefficient h k p) rest then λ row rest.
     got (record { idc = m; order = o; row = padded row-places (pos 0) row }) rest
 
 -- pred_pivot_value i
@@ -53,15 +53,11 @@ nlq h k bytes =
     unsigned h k 12 rest then λ t rest.
     got (record { offset = o; maximum = m; slope = s; threshold = t }) rest
 
--- a component of which num_pivots_minus2 is known: it says how many pivots and pieces follow
-abbrev pub counted : ℕ → Component
-counted n = record { n = n; preds = []; pieces = []; nlq = no-component .nlq }
-
 -- section k: num_pivots_minus2, the pivots, the pieces, the residual's numbers; bytes left over are refused 3
 unfoldable pub section : Header → ℕ → List ℕ → Read Component
 section h k bytes =
     ranged (asked 1 k 0 0 One) count-fits bytes then λ n rest.
-    repeated 0 (pivots-used (counted n)) (pivot h k) rest then λ pivots rest.
-    repeated 0 (pieces-used (counted n)) (piece h k) rest then λ pieces rest.
+    repeated 0 (pivots-used n) (pivot h k) rest then λ pivots rest.
+    repeated 0 (pieces-used n) (piece h k) rest then λ pieces rest.
     nlq h k rest then λ q rest.
     ended (asked 14 k 0 0 One .name) 3 (record { n = n; preds = padded pivot-places 0 pivots; pieces = padded piece-places zero-piece pieces; nlq = q }) rest

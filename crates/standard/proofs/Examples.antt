@@ -2,8 +2,7 @@
 use mathlib.Core.Path.{refl}
 use native.Mathlib.Nat.{pow-zero, zero-mul}
 use Rattle.standard.specs.Mapping.{mapped, polynomial, piece, pivot-idx, first-above, pivot-value, poly-sum}
-use Rattle.standard.specs.Residual.{residual}
-use Rattle.standard.specs.Reconstruction.{reconstructed}
+use Rattle.standard.specs.Residual.{residual, reconstructed}
 use Rattle.standard.specs.Examples.{WorkedExamples, WorkedResiduals}
 use Rattle.standard.proofs.Pieces.{only-piece}
 

@@ -1,9 +1,11 @@
--- The inverse quantization of one enhancement layer sample (5.4.3.2), line by line as the pseudo-code has it.
+-- The inverse quantization of one enhancement layer sample (5.4.3.2) and the reconstruction of one HDR sample (5.4.3.3), line by line
+-- as the pseudo-code has them.
 use mathlib.Core.Bool.{cond}
-use Prim.Native.Nat.{ℕ, zero, suc, _+_, _-_, _^_}
+use Prim.Native.Nat.{ℕ, zero, suc, _+_, _-_, _^_, min}
 use lib.IntN.{ℤ, pos, negsuc, negℤ, _+ℤ_, _-ℤ_, _*ℤ_}
 use lib.Signed.{ltZ, shrZ}
 use Rattle.standard.specs.Parameters.{Quantization}
+use Rattle.standard.specs.Mapping.{from-zero}
 
 -- 3.2.2: x << y, and x >> y, which rounds down
 infixl 5 _<<_
@@ -46,3 +48,7 @@ unless-zero el d q (negsuc n) = dequantized el d q (negsuc n)
 -- 5.4.3.2: the residual r of an enhancement sample e, with rr = e - nlq_offset, EL_bit_depth and coefficient_log2_denom
 unfoldable pub residual : ℕ → ℕ → Quantization → ℕ → ℤ
 residual el d q e = unless-zero el d q (pos e -ℤ pos (q .nlq-offset))
+
+-- 5.4.3.3: h = v + r + (1 << (15 - out_bit_depth)); h >>= (16 - out_bit_depth); h is cut to 0 .. (1 << out_bit_depth) - 1
+unfoldable pub reconstructed : ℕ → ℕ → ℤ → ℕ
+reconstructed out v r = min (from-zero ((pos v +ℤ r +ℤ pos (2 ^ (15 - out))) >> (16 - out))) (2 ^ out - 1)

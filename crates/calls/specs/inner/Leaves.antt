@@ -1,4 +1,5 @@
--- The same of the calls that the product's own crates make of each other, and of the benchmark's.
+-- The same of the calls that read off a number or a size, of those that the product's own crates make of each other, and of the
+-- benchmark's.
 use denote.Ref.{now}
 use Rattle.picture.proofs.planes_of.Reads as planes-of-promise
 use Rattle.rules.proofs.extent_of.Reads as extent-of-promise
@@ -22,6 +23,11 @@ use Rattle.spans.proofs.least.Reads as least-promise
 use Rattle.planes.proofs.plain_planes.Reads as plain-planes-promise
 use Rattle.planes.proofs.enhanced_planes.Reads as enhanced-planes-promise
 use Rattle.speed.proofs.speed_job.Reads as speed-job-promise
+use Rattle.compose.proofs.picture_size.Reads as run-length-promise
+use Rattle.compose.proofs.number.Reads as composed-number-promise
+use Rattle.jobs.proofs.opened_number.Reads as opened-number-promise
+use Rattle.jobs.proofs.number.Reads as job-number-promise
+use Rattle.jobs.proofs.is_complete.Reads as is-complete-promise
 use Rattle.calls.specs.Settled.{OneAnswer, OneContent}
 
 pub record LeavesSettled : Type 0 where
@@ -49,3 +55,8 @@ pub record LeavesSettled : Type 0 where
   pub speed-job : OneAnswer speed-job-promise.Post
   pub speed-output : OneContent speed-job-promise.Post (λ c. let pictures = c .left .1 .1 .1 .1 .1 in now (pictures .1 .1 .0))
   pub speed-marks : OneContent speed-job-promise.Post (λ c. let pictures = c .left .1 .1 .1 .1 .1 in now (pictures .1 .1 .1 .0))
+  pub run-length : OneAnswer run-length-promise.Post
+  pub composed-number : OneAnswer composed-number-promise.Post
+  pub opened-number : OneAnswer opened-number-promise.Post
+  pub job-number : OneAnswer job-number-promise.Post
+  pub is-complete : OneAnswer is-complete-promise.Post

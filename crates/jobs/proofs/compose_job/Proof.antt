@@ -4,7 +4,7 @@ use native.Mathlib.Omega.{arith}
 use lib.ListN.{length}
 use borrow.Author.Needs.{needs}
 use borrow.Author.Tests.{not-true, not-false, eqb-true, eqb-false}
-use Rattle.refusals.specs.Outcomes.{Outcome}
+use Rattle.refusals.specs.Refusals.{Outcome}
 use Rattle.refusals.proofs.Laws.{outcome-number}
 use Rattle.plan.proofs.Facts.{header-facts}
 use Rattle.rules.specs.Rules.{refusal}

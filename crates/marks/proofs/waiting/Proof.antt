@@ -10,7 +10,7 @@ use borrow.Author.Needs.{needs}
 use borrow.Author.Tests.{eq-eqb, ne-eqb}
 use Rattle.runs.specs.Runs.{tally}
 use Rattle.runs.proofs.Counting.{tally-more}
-use Rattle.marks.specs.Marks.{is-waiting}
+use Rattle.marks.specs.inner.Marks.{is-waiting}
 use Rattle.marks.proofs.waiting.Statement.{statement}
 use Rattle.marks.proofs.waiting.Tie as tie
 

@@ -8,7 +8,7 @@ use native.Mathlib.Omega.{arith}
 use lib.IntN.{pos}
 use Rattle.runs.specs.inner.Loops.{at}
 use Rattle.runs.proofs.Tables.{Filled, fill-none, fill-more, fill-all, zero-table}
-use Rattle.standard.specs.Reconstruction.{reconstructed}
+use Rattle.standard.specs.Residual.{reconstructed}
 use Rattle.plan.specs.Ranges.{header-fits}
 use Rattle.plan.proofs.Facts.{header-kept}
 use Rattle.residual.specs.inner.Tables.{finished-code, finished-table}

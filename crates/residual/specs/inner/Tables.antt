@@ -5,8 +5,7 @@ use Prim.Native.Nat.{ℕ, _-_, _*_, _^_}
 use lib.IntN.{pos}
 use Rattle.runs.specs.inner.Loops.{at}
 use Rattle.runs.specs.inner.Tables.{table, coded}
-use Rattle.standard.specs.Residual.{residual}
-use Rattle.standard.specs.Reconstruction.{reconstructed}
+use Rattle.standard.specs.Residual.{residual, reconstructed}
 use Rattle.plan.specs.declared.Header.{Header}
 use Rattle.plan.specs.declared.Nlq.{Nlq}
 use Rattle.plan.specs.Parameters.{quantization}

@@ -1,6 +1,6 @@
 use mathlib.Core.Path.{ap, _∙_}
 use borrow.Author.Needs.{needs}
-use Rattle.refusals.specs.Outcomes.{Outcome}
+use Rattle.refusals.specs.Refusals.{Outcome}
 use Rattle.speed.proofs.speed_job.Statement.{statement}
 use Rattle.speed.proofs.speed_job.Tie as tie
 

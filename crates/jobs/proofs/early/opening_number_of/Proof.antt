@@ -1,7 +1,7 @@
 use mathlib.Core.Path.{sym, _∙_}
 use borrow.Author.Needs.{needs}
 use borrow.Author.Tests.{not-true, not-false}
-use Rattle.jobs.specs.Opening.{opening-refusal}
+use Rattle.jobs.specs.Jobs.{opening-refusal}
 use Rattle.jobs.proofs.early.opening_number_of.Statement.{statement}
 use Rattle.jobs.proofs.early.opening_number_of.Tie as tie
 
