@@ -20,7 +20,7 @@ pub struct Cut {
 }
 
 // So many samples stay in the nearest cache from the first pass to the second.
-const PART: usize = 256;
+const PART: usize = 128;
 
 // The samples from `from` up to, but not including, `to`.
 struct Part {
