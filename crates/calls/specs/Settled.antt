@@ -1,5 +1,5 @@
--- For every input the promise of each call that a user makes leaves one answer, and one content of each run that it was lent: two
--- outcomes that the promise allows are equal. A promise is the call's generated `Post`, made of its own contract.
+-- For every input the promise of each call that reads or writes something of a user's leaves one answer, and one content of each run
+-- that it was lent: two outcomes that the promise allows are equal. A promise is the call's generated `Post`, made of its own contract.
 use mathlib.Core.Path.{_≡_}
 use mathlib.Core.List.{List}
 use Prim.Native.Nat.{ℕ}
@@ -23,7 +23,7 @@ module _ {K : Type 0} {Handed Answered Left : K → Type 0} (Post : (κs : K) �
   abbrev pub OneContent : (Ended Post → List ℕ) → Type 0
   OneContent lent = (κs : K) (a : Handed κs) (r r' : Answered κs) (s s' : Left κs) (p : Post κs a r s) (q : Post κs a r' s') → lent (ended κs a r s p) ≡ lent (ended κs a r' s' q)
 
--- the answer of each call that reads or writes something of a user's, and the content of each run that one writes
+-- the answer of each such call, and the content of each run that one writes
 pub record Settled : Type 0 where
   pub passes : OneAnswer passes-promise.Post
   pub empty : OneAnswer empty-promise.Post
