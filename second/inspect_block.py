@@ -1,24 +1,25 @@
-"""The program `inspect` once more: python3 inspect_block.py FILE prints a block's fields, or why it is refused.
+"""The program `inspect` once more: python3 inspect_block.py WORD... says what inspect has to say.
 
-The names are the standard's; the numbers with a fraction are value / 2^coefficient_log2_denom, rounded down (toward
-minus infinity) to six digits after the point.
+The names are the standard's. A number with a fraction is shown as its two fields and as value /
+2^coefficient_log2_denom, rounded down (toward minus infinity) to six digits after the point.
 """
 
 import struct
 import sys
+from collections import namedtuple
 
 import block
 import composer
+import inspect_plot
 import limits
+import words
 
-RULES = {
-    1: "the block is cut off: the file has to end where the block ends",
-    2: "the trailer is none of version 1: this is no composing block, or one of a later version",
-    3: "a field runs past its section, or bytes are left over: the block was cut or joined wrongly",
-    4: "a field of the header is outside its range: a picture or a profile that this composer does not do",
-    5: "a field of a section is outside its range: the block's maker has a fault",
-    6: "mapping_idc is 1: MMR mapping is not built yet",
-}
+USE = ["use: inspect [--rules] [--plot] BLOCK...", "not shown"]
+
+# A field of a section: its first byte there and its length, its indices after the section's, what it may hold in words.
+Field = namedtuple("Field", "at size name indices allowed")
+
+NLQ_NUMBERS = ("hdr_in_max", "linear_deadzone_slope", "linear_deadzone_threshold")
 
 
 class Noted(block._Fields):
@@ -48,35 +49,10 @@ def fraction(value, d):
     return "%s%d.%06d" % (sign, abs(millionths) // 10**6, abs(millionths) % 10**6)
 
 
-def fields(plan):
-    d = plan.coefficient_log2_denom
-    for name in ("ccm_profile", "ccm_level", "coefficient_log2_denom", "BL_bit_depth", "EL_bit_depth",
-                 "hdr_bit_depth", "disable_residual_flag", "width", "height"):
-        yield "%s %d" % (name, getattr(plan, name))
-    yield "max_display_mastering_luminance %d cd/m2" % plan.max_display_mastering_luminance
-    yield "min_display_mastering_luminance %d x 0.0001 cd/m2" % plan.min_display_mastering_luminance
-    pivots = composer.assign_pivot_values(plan.pred_pivot_value, plan.num_pivots_minus2)
-    for cmp, name in enumerate(("Y", "Cb", "Cr")):
-        yield name
-        n = plan.num_pivots_minus2[cmp]
-        yield "  num_pivots_minus2 %d" % n
-        yield "  pivot_value " + " ".join("%d" % v for v in pivots[cmp])
-        for piece in range(limits.pieces(n)):
-            yield "  piece %d" % piece
-            yield "    mapping_idc %d" % plan.mapping_idc[cmp][piece]
-            order = plan.poly_order_minus1[cmp][piece]
-            yield "    poly_order_minus1 %d" % order
-            for i in range(limits.coefs(order)):
-                yield "    fp_poly_coef[%d] %s" % (i, fraction(plan.fp_poly_coef[cmp][piece][i], d))
-        yield "  nlq_offset %d" % plan.nlq_offset[cmp]
-        for name in ("fp_hdr_in_max", "fp_linear_deadzone_slope", "fp_linear_deadzone_threshold"):
-            yield "  %s %s" % (name, fraction(getattr(plan, name)[cmp], d))
-
-
 def listed(allowed):
     """1, 3 or 4"""
-    words = [str(value) for value in allowed]
-    return " or ".join([", ".join(words[:-1]), words[-1]] if words[1:] else words)
+    values = [str(value) for value in allowed]
+    return " or ".join([", ".join(values[:-1]), values[-1]] if values[1:] else values)
 
 
 def spanned(allowed):
@@ -113,13 +89,13 @@ def header_fault(head):
         ("min_display_mastering_luminance", lum_min, limits.darkest(lum_max), below),
         ("zero (bytes 20-23)", zero20, limits.ZERO, listed),
     ]
-    for name, value, allowed, words in rows:
+    for name, value, allowed, said in rows:
         if value not in allowed:
-            return "%s is %d, allowed %s" % (name, value, words(allowed))
+            return "%s is %d, allowed %s" % (name, value, said(allowed))
 
 
-def section_fields(section, cmp, plan):
-    """(offset, bytes, name, allowed) of each field in order, as far as the section's own numbers say where they are."""
+def section_fields(section, plan):
+    """The fields in order, as far as the section's own numbers say where they are."""
     sample = below(limits.samples(plan.BL_bit_depth))
     fraction = below(limits.fractions(plan.coefficient_log2_denom))
     at = 0
@@ -127,7 +103,7 @@ def section_fields(section, cmp, plan):
     def field(size, name, allowed, *indices):
         nonlocal at
         at += size
-        return at - size, size, name + "".join("[%d]" % i for i in (cmp,) + indices), allowed
+        return Field(at - size, size, name, indices, allowed)
 
     n = section[0]
     yield field(1, "num_pivots_minus2", spanned(limits.N))
@@ -141,16 +117,21 @@ def section_fields(section, cmp, plan):
             yield field(1, "poly_coef_int", spanned(limits.COEF_INTS), piece, i)
             yield field(4, "poly_coef", fraction, piece, i)
     yield field(2, "nlq_offset", sample)
-    for name in ("hdr_in_max", "linear_deadzone_slope", "linear_deadzone_threshold"):
+    for name in NLQ_NUMBERS:
         yield field(1, name + "_int", spanned(limits.NLQ_INTS))
         yield field(4, name, fraction)
 
 
+def value_of(section, field):
+    """What stands at a field's place."""
+    return int.from_bytes(section[field.at:field.at + field.size], "big", signed=field.name == "poly_coef_int")
+
+
 def section_fault(section, cmp, plan, place):
-    for at, size, name, allowed in section_fields(section, cmp, plan):
-        if at == place:
-            value = int.from_bytes(section[at:at + size], "big", signed=name.startswith("poly_coef_int"))
-            return "%s is %d, allowed %s" % (name, value, allowed)
+    for field in section_fields(section, plan):
+        if field.at == place:
+            name = field.name + "".join("[%d]" % i for i in (cmp,) + field.indices)
+            return "%s is %d, allowed %s" % (name, value_of(section, field), field.allowed)
 
 
 def fault(number, data):
@@ -177,23 +158,108 @@ def fault(number, data):
     return begin + place, section_fault(data[begin:end], cmp, plan, place)
 
 
-def refusal(number, data):
-    place, found = fault(number, data)
-    yield "refused %d%s: %s" % (number, "" if place is None else " at byte %d" % place, RULES[number])
-    yield found
+def fixed_point(values, name, piece=(), i=()):
+    """A number with a fraction: its two fields, and about what it comes to."""
+    d = values["d"]
+    integer, part = values[(name + "_int",) + piece + i], values[(name,) + piece + i]
+    index = "".join("[%d]" % k for k in i)
+    return "%s_int%s %d + %s%s %d/2^%d, about %s" % (
+        name, index, integer, name, index, part, d, fraction((integer << d) + part, d))
 
 
-def inspect(name, data):
-    """The lines about one block, under its file's name."""
+def section_lines(section, cmp, plan):
+    """Every field of a section as its bytes have it, and the pivots that come of them."""
+    values = {(field.name,) + field.indices: value_of(section, field) for field in section_fields(section, plan)}
+    values["d"] = plan.coefficient_log2_denom
+    n = values[("num_pivots_minus2",)]
+    pivots = composer.assign_pivot_values(plan.pred_pivot_value, plan.num_pivots_minus2)[cmp]
+    yield "  num_pivots_minus2 %d" % n
+    yield "  pred_pivot_value " + " ".join("%d" % values["pred_pivot_value", i] for i in range(limits.pivots(n)))
+    yield "  pivot_value " + " ".join("%d" % pivot for pivot in pivots)
+    for piece in range(limits.pieces(n)):
+        yield "  piece %d" % piece
+        yield "    mapping_idc %d" % values["mapping_idc", piece]
+        order = values["poly_order_minus1", piece]
+        yield "    poly_order_minus1 %d" % order
+        for i in range(limits.coefs(order)):
+            yield "    " + fixed_point(values, "poly_coef", (piece,), (i,))
+    yield "  nlq_offset %d" % values[("nlq_offset",)]
+    for name in NLQ_NUMBERS:
+        yield "  " + fixed_point(values, name)
+
+
+def header_lines(plan):
+    for name in ("ccm_profile", "ccm_level", "coefficient_log2_denom", "BL_bit_depth_minus8", "EL_bit_depth_minus8",
+                 "hdr_bit_depth_minus8", "disable_residual_flag"):
+        yield "  %s %d" % (name, getattr(plan, name))
+    yield "  W/2 %d" % plan.half_width
+    yield "  H/2 %d" % plan.half_height
+    yield "  max_display_mastering_luminance %d cd/m2" % plan.max_display_mastering_luminance
+    yield "  min_display_mastering_luminance %d x 0.0001 cd/m2" % plan.min_display_mastering_luminance
+
+
+def shown(name, data, plan):
+    """Every field of a block that is read, with the byte where each part begins."""
+    t = len(data) - limits.TRAILER_BYTES
+    trailer = struct.unpack_from(">5H", data, t)
+    A, D0, D1, D2, _ = trailer
+    yield "%s, %d bytes" % (name, len(data))
+    yield "header at byte %d" % (t - A)
+    yield from header_lines(plan)
+    for cmp, (begin, end) in enumerate(((t - D0, t - D1), (t - D1, t - D2), (t - D2, t))):
+        yield "section %d, %s, at byte %d" % (cmp, inspect_plot.NAMES[cmp], begin)
+        yield from section_lines(data[begin:end], cmp, plan)
+    yield "trailer at byte %d" % t
+    for field, value in zip(("A", "D0", "D1", "D2", "version"), trailer):
+        yield "  %s %d" % (field, value)
+
+
+def inspect(name, data, plotted=False):
+    """The lines about one block: its fields, a picture of its mappings where that was asked, or why it is refused."""
     Noted.sections.clear()
     number, plan = block.read(data)
-    return [name] + list(fields(plan) if number == 0 else refusal(number, data))
+    if number != 0:
+        place, found = fault(number, data)
+        return [words.refused(name, number, found, place), "not shown"]
+    return list(inspect_plot.lines(plan) if plotted else shown(name, data, plan)) + ["shown"]
+
+
+def file_lines(name, read, plotted):
+    try:
+        return inspect(name, read(name), plotted)
+    except OSError as error:
+        return [words.unread(name, error.errno), "not shown"]
+
+
+def rules():
+    return ["%d %s: %s" % (number, words.NAMES[number], words.ADVICE[number]) for number in sorted(words.NAMES)]
+
+
+def answer(given, read):
+    """All lines for the words that inspect is given; read(name) gives a file's bytes or raises OSError."""
+    lines, left = [], list(given)
+    if not left:
+        return USE
+    while left:
+        word = left.pop(0)
+        if word == "--rules":
+            lines += rules() + ["shown"]
+        elif word != "--plot":
+            lines += file_lines(word, read, False)
+        elif left:
+            lines += file_lines(left.pop(0), read, True)
+        else:
+            lines += USE
+    return lines
+
+
+def contents(path):
+    with open(path, "rb") as file:
+        return file.read()
 
 
 def main():
-    for path in sys.argv[1:]:
-        with open(path, "rb") as file:
-            print("\n".join(inspect(path, file.read())))
+    print("\n".join(answer(sys.argv[1:], contents)))
 
 
 if __name__ == "__main__":

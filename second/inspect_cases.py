@@ -1,10 +1,13 @@
-"""The blocks that the gate shows to inspect: one that is read, and some that must be refused."""
+"""The words that the gate hands to inspect, and the files that they name: blocks that are read, and some that must be refused."""
 
+import errno
+import os
 import struct
 from collections import namedtuple
 
 import block
 import limits
+from composer import Plan
 
 # `number` is the answer that the block is to show: 0 where it is read.
 Shown = namedtuple("Shown", "name data number")
@@ -13,6 +16,27 @@ Shown = namedtuple("Shown", "name data number")
 def first_piece(good, section):
     """Where the first piece's mapping_idc is: after the number of pivots and the pivots."""
     return section + 1 + 2 * limits.pivots(good[section])
+
+
+def clamped():
+    """A block of depth 8 whose codes go past the pivots on both sides, whose pivots meet, and whose mappings jump and are cut."""
+    one = 1 << 13
+    plan = Plan(ccm_profile=4, coefficient_log2_denom=13, hdr_bit_depth_minus8=2, disable_residual_flag=1,
+                half_width=1, half_height=1, max_display_mastering_luminance=1)
+    sections = [
+        ((16, 64, 0, 80, 75), [(-one // 4, 3 * one), (0, 0), (one // 2, one // 4), (0, one, one // 2)]),
+        ((40, 160, 100), [(one // 8, one), (0, 0, 3 * one)]),
+        ((0,) + (17,) * 16, [(one // 8, one * (piece % 3) // 2 - piece) for piece in range(16)]),
+    ]
+    for cmp, (steps, pieces) in enumerate(sections):
+        plan.num_pivots_minus2[cmp] = len(pieces) - 1
+        plan.pred_pivot_value[cmp][:len(steps)] = steps
+        for piece, coef in enumerate(pieces):
+            plan.poly_order_minus1[cmp][piece] = len(coef) - 2
+            plan.fp_poly_coef[cmp][piece][:len(coef)] = coef
+        plan.nlq_offset[cmp] = 255
+        plan.fp_hdr_in_max[cmp] = 2 * one - 1
+    return block.write(plan)
 
 
 def all_blocks(good):
@@ -69,7 +93,32 @@ def all_blocks(good):
         Shown("slope", beyond(nlq + 7, limits.NLQ_INTS), 5),
         Shown("slope_fraction", put(nlq + 8, 255), 5),
         Shown("threshold", beyond(nlq + 12, limits.NLQ_INTS), 5),
+        Shown("empty", b"", 1),
+        Shown("clamped", clamped(), 0),
+        # more bytes than a trailer can point back over
+        Shown("behind_zeros", bytes(70000) + good, 0),
+        Shown("refused_behind_zeros", bytes(70000) + cut(cb, 5), 3),
     ]
     for one in shown:
         assert block.read(one.data)[0] == one.number, one.name
     return shown
+
+
+def arguments(blocks):
+    """The words: every block, then all that else a word can be."""
+    return [shown.name for shown in blocks] + [
+        "--rules", "--plot", "block", "--plot", "clamped", "--plot", "mmr", "--plot", "missing",
+        "missing", "block/", ".", "--plot"]
+
+
+def reader(blocks):
+    """Reads as in a folder that has the blocks and nothing else."""
+    contents = {shown.name: shown.data for shown in blocks}
+
+    def read(name):
+        if name in contents:
+            return contents[name]
+        number = errno.EISDIR if name == "." else errno.ENOTDIR if name.rstrip("/") in contents else errno.ENOENT
+        raise OSError(number, os.strerror(number), name)
+
+    return read

@@ -9,16 +9,20 @@ inspect have to say is worked out.
 
 import os
 import struct
+import subprocess
 import sys
+import tempfile
 from collections import Counter
 
 import answers
 import block
 import block_cases
+import compose_cases
 import composer
 import inspect_block
 import inspect_cases
 import night_cases
+import nights
 import picture
 import places
 import plan_cases
@@ -88,25 +92,60 @@ def text(lines):
 
 
 def example_files(outdir):
-    """What compose_file has to say of the example picture."""
+    """The files that compose_file is run on, its words, and what it has to say of them."""
     data = os.path.join(outdir, "compose_file", "data")
-    names = ["block", "base.yuv", "enhancement.yuv", "hdr.yuv"]
-    _, lines = picture.compose_file(*(os.path.join(data, name) for name in names[:3]), names[3])
-    return {os.path.join("compose_file", "args"): text(names),
-            os.path.join("compose_file", "stdout"): text(lines)}
+    sources = {name: picture.contents(os.path.join(data, name)) for name in compose_cases.SOURCES}
+    made, groups = compose_cases.all_cases(sources)
+    words = compose_cases.word_list(groups)
+    said, left = composed({**sources, **made}, words)
+    compose_cases.checked(groups, said.decode("ascii").splitlines())
+    assert left == set(sources) | set(made) | compose_cases.outputs(groups), left
+    return {os.path.join("compose_file", "args"): text(words),
+            os.path.join("compose_file", "stdout"): said,
+            **{os.path.join("compose_file", "data", name): made[name] for name in made}}
+
+
+def composed(files, words):
+    """(what picture.py says to the words, the files that stand there afterwards), in a folder of its own."""
+    program = os.path.join(os.path.dirname(os.path.abspath(__file__)), "picture.py")
+    with tempfile.TemporaryDirectory() as folder:
+        for name, data in files.items():
+            put(os.path.join(folder, name), data)
+        said = subprocess.run([sys.executable, "-B", program, *words], cwd=folder, check=True,
+                              stdout=subprocess.PIPE).stdout
+        left = {os.path.relpath(os.path.join(at, name), folder)
+                for at, _, names in os.walk(folder) for name in names}
+    return said, left
+
+
+def put(path, data):
+    os.makedirs(os.path.dirname(path), exist_ok=True)
+    with open(path, "wb") as file:
+        file.write(data)
 
 
 def inspect_files(outdir):
     """The blocks that inspect is shown, and what it has to say of them."""
     good = picture.contents(os.path.join(outdir, "compose_file", "data", "block"))
-    files, lines = {}, []
     blocks = inspect_cases.all_blocks(good)
-    for shown in blocks:
-        files[os.path.join("inspect", "data", shown.name)] = shown.data
-        lines += inspect_block.inspect(shown.name, shown.data)
-    files[os.path.join("inspect", "args")] = text([shown.name for shown in blocks])
-    files[os.path.join("inspect", "stdout")] = text(lines)
+    words = inspect_cases.arguments(blocks)
+    files = {os.path.join("inspect", "data", shown.name): shown.data for shown in blocks}
+    files[os.path.join("inspect", "args")] = text(words)
+    files[os.path.join("inspect", "stdout")] = text(inspect_block.answer(words, inspect_cases.reader(blocks)))
     return files
+
+
+def ten_lines_files(outdir):
+    """A block of a 4 x 4 picture, and what ten_lines has to say after its jobs."""
+    good = picture.contents(os.path.join(outdir, "compose_file", "data", "block"))
+    data = compose_cases.sized(good, 4, 4)
+    plan, ticket = block.read(data)[1], 7
+    base, output, marks = [512] * 24, [0] * 24, [9] * 2
+    nights.open_picture(plan, ticket, marks)
+    for first in (0, 0, 1):
+        _, left = nights.row_job(plan, ticket, ticket, first, 1, base, [], output, marks)
+    return {os.path.join("ten_lines", "stdin"): data,
+            os.path.join("ten_lines", "stdout"): b"complete\n" if left == 0 else b""}
 
 
 def make(outdir):
@@ -132,12 +171,13 @@ def make(outdir):
         os.path.join("night_vectors", "stdout"): text(night_lines),
         os.path.join("plan_vectors", "stdin"): plan_stdin,
         os.path.join("plan_vectors", "stdout"): text(plan_lines),
-        **example_files(outdir), **inspect_files(outdir)}
+        **example_files(outdir), **inspect_files(outdir), **ten_lines_files(outdir)}
     summary = (sample_summary(samples, sample_lines)
                + table("block_vectors", reads, block_lines)
                + night_summary(nights, night_lines)
                + table("plan_vectors", [case for group in groups for case in group.cases],
-                       plan_lines))
+                       plan_lines)
+               + compose_summary(files[os.path.join("compose_file", "stdout")]))
     return files, summary
 
 
@@ -172,6 +212,11 @@ def night_summary(nights, lines):
     return out
 
 
+def compose_summary(said):
+    found = [answer[-1] for answer in compose_cases.answers(said.decode("ascii").splitlines())]
+    return ["compose_file: %d groups" % len(found), "  " + counts(found)]
+
+
 def night_answer_of(line):
     return line if line.startswith("refused") else line.split()[0]
 
@@ -203,10 +248,7 @@ def counts(given):
 def write(outdir):
     files, summary = make(outdir)
     for path, data in files.items():
-        path = os.path.join(outdir, path)
-        os.makedirs(os.path.dirname(path), exist_ok=True)
-        with open(path, "wb") as file:
-            file.write(data)
+        put(os.path.join(outdir, path), data)
     print("\n".join(summary))
 
 
@@ -220,7 +262,18 @@ def check(outdir):
         with open(path, "rb") as file:
             if file.read() != data:
                 return "%s differs from what the second program gives" % path
+    for path in data_files(outdir):
+        if path not in files and os.path.basename(path) not in compose_cases.SOURCES:
+            return "%s is none of the second program's files" % os.path.join(outdir, path)
     return None
+
+
+def data_files(outdir):
+    """What the programs are run on: a stray file there could be one that a case wants missing."""
+    for crate in ("compose_file", "inspect"):
+        for at, _, names in os.walk(os.path.join(outdir, crate, "data")):
+            for name in names:
+                yield os.path.relpath(os.path.join(at, name), outdir)
 
 
 def main():

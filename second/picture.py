@@ -1,37 +1,126 @@
 """compose_file in the second program.
 
-    python3 picture.py BLOCK BASE ENHANCEMENT OUTPUT      (ENHANCEMENT may be none)
+    python3 picture.py [--standby] BLOCK BASE ENHANCEMENT OUTPUT ...      (ENHANCEMENT may be none)
 
-Composes a picture from files by the same jobs, says what compose_file has to
-say, and writes the picture.  Files that compose_file refuses stop it.
+Composes pictures from files, a group of four words after the other, by the same
+jobs, says what compose_file has to say, and writes the pictures.
 """
 
+import errno
 import os
 import struct
 import sys
 import zlib
 
 import block
+import inspect_block
+import limits
 import nights
+import words
 
 BATCH = 8               # row pairs that a job names
 IN_FLIGHT = 16          # row pairs sent again after the standby
+BAND_SAMPLES = 98304    # the row pairs of a band have no more
 TICKET = 1
+GROUP = 4               # words: BLOCK BASE ENHANCEMENT OUTPUT
+STANDBY = "--standby"
+NONE = "none"
+USE = "use: compose_file [--standby] BLOCK BASE ENHANCEMENT OUTPUT ..."
 
 
-def samples(data):
-    return list(struct.unpack("<%dH" % (len(data) // 2), data))
+class NotWritten(Exception):
+    """Carries the one line that says why."""
 
 
-def batches(start, stop):
-    """The jobs (first, count) that name the row pairs from start to stop - 1."""
-    return [(first, min(BATCH, stop - first)) for first in range(start, stop, BATCH)]
+# Files ----------------------------------------------------------------------
+
+def contents(name):
+    """The bytes of a file; OSError where it cannot be read, or is a pipe.
+
+    A file ends where seeking to its end leads: a device such as /dev/zero is empty.
+    """
+    with open(name, "rb") as file:
+        return file.read(length(file))
 
 
-def picture_line(plan, enhanced):
-    return "%d x %d, %d bit to %d bit, %s" % (
-        plan.width, plan.height, plan.BL_bit_depth, plan.hdr_bit_depth,
-        "with an enhancement picture" if enhanced else "base picture only")
+def length(file):
+    """OSError (ESPIPE) where the file cannot be sought in."""
+    size = os.lseek(file.fileno(), 0, os.SEEK_END)
+    os.lseek(file.fileno(), 0, os.SEEK_SET)
+    return size
+
+
+class PictureFile:
+    """A file of pictures that is read, under the name that is said of it."""
+
+    def __init__(self, name):
+        self.name = name
+        try:
+            self.file = open(name, "rb")
+            self.length = length(self.file)
+        except OSError as error:
+            raise NotWritten(words.unread(name, error.errno))
+
+    def picture(self, k, size):
+        """The samples of picture k, which has this many bytes."""
+        try:
+            self.file.seek(k * size)
+            data = self.file.read(size)
+        except OSError as error:
+            raise NotWritten(words.unread(self.name, error.errno))
+        if len(data) != size:
+            raise NotWritten("%s: cannot be read: it ended early" % self.name)
+        return list(struct.unpack("<%dH" % (size // 2), data))
+
+
+class Output:
+    """OUTPUT.part, which becomes OUTPUT or is removed."""
+
+    def __init__(self, name):
+        self.name = name
+        self.part = name + ".part"
+        if name == "":
+            raise NotWritten(words.unwritten(name, errno.ENOENT))       # `.part` alone stands beside nothing
+        self.file = self.tried(open, self.part, "xb", buffering=0)
+
+    def tried(self, call, *given, **named):
+        try:
+            return call(*given, **named)
+        except OSError as error:
+            raise NotWritten(words.unwritten(self.name, error.errno))
+
+    def write(self, run):
+        data = struct.pack("<%dH" % len(run), *run)
+        while data:
+            data = data[self.tried(self.file.write, data):]
+
+    def move(self):
+        """Gives the Adler-32 of what stands in the file."""
+        self.tried(self.file.close)
+        adler = zlib.adler32(self.tried(contents, self.part))
+        self.tried(self.replace)
+        return adler
+
+    def replace(self):
+        """A device would be gone for good: only a regular file is replaced."""
+        if os.path.exists(self.name) and not os.path.isfile(self.name) and not os.path.isdir(self.name):
+            raise OSError(errno.EINVAL, "no regular file")
+        os.rename(self.part, self.name)
+
+    def remove(self):
+        self.file.close()
+        os.remove(self.part)
+
+
+# The jobs of a picture ------------------------------------------------------
+
+def batches(start, stop, size):
+    """(first, count) of the jobs or bands that the row pairs from start to stop - 1 make."""
+    return [(first, min(size, stop - first)) for first in range(start, stop, size)]
+
+
+def bands(plan):
+    return batches(0, plan.half_height, BAND_SAMPLES // (3 * plan.width))
 
 
 def job_line(first, count, left):
@@ -39,49 +128,157 @@ def job_line(first, count, left):
         count, first, "%d row pairs left" % left if left else "complete")
 
 
-def compose(plan, base, enhancement):
-    """Give (the picture's bytes, the lines said)."""
-    half = plan.half_height // 2
-    output, marks = [0] * len(base), [0] * plan.half_height
-    lines = [picture_line(plan, len(enhancement) > 0)]
-    assert nights.open_picture(plan, TICKET, marks) == (0, TICKET)
+class Night:
+    """One picture of a group: its runs, and the jobs that compose it."""
 
-    def send(jobs):
-        for first, count in jobs:
-            number, left = nights.row_job(plan, TICKET, TICKET, first, count, base,
-                                          enhancement, output, marks)
-            assert number == 0
-            lines.append(job_line(first, count, left))
+    def __init__(self, plan, k, names, base, enhancement):
+        self.plan, self.k, self.names = plan, k, names
+        self.base, self.enhancement = base, enhancement
+        self.output, self.marks = [0] * len(base), [0] * plan.half_height
+        assert nights.open_picture(plan, TICKET, self.marks) == (0, TICKET)
 
-    send(batches(0, half))
-    lines.append("standby; the jobs in flight are sent again")
-    send(batches(max(0, half - IN_FLIGHT), half))
-    send(batches(half, plan.half_height))
-    return struct.pack("<%dH" % len(output), *output), lines
+    def send(self, first, count):
+        number, _ = nights.row_job(self.plan, TICKET, TICKET, first, count, self.base,
+                                   self.enhancement, self.output, self.marks)
+        if number != 0:
+            assert number == 11
+            raise NotWritten(self.large_sample(first, count))
+
+    def compose(self):
+        for first, count in bands(self.plan):
+            self.send(first, count)
+
+    def compose_with_standbys(self):
+        """Gives the lines that are said."""
+        for first, count in bands(self.plan):
+            yield "picture %d, row pairs %d to %d" % (self.k, first, first + count - 1)
+            middle, stop = first + count // 2, first + count
+            yield from self.said(first, middle, first, stop)
+            yield "standby; the jobs in flight are sent again"
+            yield from self.said(max(first, middle - IN_FLIGHT), middle, first, stop)
+            yield from self.said(middle, stop, first, stop)
+
+    def said(self, start, stop, band, band_stop):
+        """Sends the row pairs from start to stop - 1; says the rows left of their band."""
+        for first, count in batches(start, stop, BATCH):
+            self.send(first, count)
+            yield job_line(first, count, nights.rows_left(self.marks[band:band_stop]))
+
+    def large_sample(self, first, count):
+        """The line about the first sample that rule 11 refuses: the base's before the enhancement's."""
+        depths = (self.plan.BL_bit_depth, self.plan.EL_bit_depth)
+        for name, run, depth in zip(self.names, (self.base, self.enhancement), depths):
+            for cmp, row, column, at in plane_samples(self.plan, first, count) if run else ():
+                if run[at] not in limits.samples(depth):
+                    return words.refused(
+                        name, 11, "picture %d, %s row %d column %d is %d, allowed less than %d"
+                        % (self.k, ("Y", "Cb", "Cr")[cmp], row, column, run[at], 1 << depth))
 
 
-def compose_file(block_path, base_path, enhancement_path, name):
-    """Give (the picture's bytes, what is said of it when it is written to `name`)."""
-    number, plan = block.read(contents(block_path))
-    assert number == 0
-    enhancement = b"" if enhancement_path == "none" else contents(enhancement_path)
-    picture, lines = compose(plan, samples(contents(base_path)), samples(enhancement))
-    lines.append("written to %s, Adler-32 %d" % (name, zlib.adler32(picture)))
-    return picture, lines
+def plane_samples(plan, first, count):
+    """(component, row, column, index) of the job's samples: Y, Cb, Cr, each by rows."""
+    begin = 0
+    for cmp in range(3):
+        width, rows = (plan.width, 2) if cmp == 0 else (plan.half_width, 1)
+        for row in range(rows * first, rows * (first + count)):
+            for column in range(width):
+                yield cmp, row, column, begin + row * width + column
+        begin += width * rows * plan.half_height
 
 
-def contents(path):
-    with open(path, "rb") as file:
-        return file.read()
+# A group --------------------------------------------------------------------
+
+def read_block(name):
+    try:
+        data = contents(name)
+    except OSError as error:
+        raise NotWritten(words.unread(name, error.errno))
+    number, plan = block.read(data)
+    if number != 0:
+        raise NotWritten(inspect_block.inspect(name, data)[-2])      # inspect says the same line
+    return plan
+
+
+def pictures(count):
+    return "1 picture" if count == 1 else "%d pictures" % count
+
+
+def enhancement_words(plan, enhancement):
+    if plan.disable_residual_flag == 1:
+        return "base only, as disable_residual_flag is 1"
+    return "with enhancement" if enhancement else "base only"
+
+
+def open_inputs(plan, base_name, enhancement_name):
+    """(base, enhancement or None), whole pictures of the plan's size and as many of both."""
+    size = 2 * plan.picture_samples
+    base = PictureFile(base_name)
+    if base.length == 0 or base.length % size != 0:
+        raise NotWritten(words.refused(
+            base_name, 9, "%d bytes, allowed %d for each picture" % (base.length, size)))
+    if plan.disable_residual_flag == 1 or enhancement_name == NONE:
+        return base, None
+    enhancement = PictureFile(enhancement_name)
+    if enhancement.length != base.length:
+        raise NotWritten(words.refused(
+            enhancement_name, 9, "%d bytes, allowed %d, as the base has"
+            % (enhancement.length, base.length)))
+    return base, enhancement
+
+
+def compose_all(plan, count, base, enhancement, output, standby):
+    """Writes the pictures; gives the lines that are said."""
+    size = 2 * plan.picture_samples
+    for k in range(count):
+        names = [base.name, enhancement.name if enhancement else NONE]
+        night = Night(plan, k, names, base.picture(k, size),
+                      enhancement.picture(k, size) if enhancement else [])
+        if standby:
+            yield from night.compose_with_standbys()
+        else:
+            night.compose()
+        output.write(night.output)
+
+
+def group(standby, block_name, base_name, enhancement_name, output_name):
+    """The lines of a group whose picture is written; else NotWritten after some of them."""
+    plan = read_block(block_name)
+    base, enhancement = open_inputs(plan, base_name, enhancement_name)
+    count = base.length // (2 * plan.picture_samples)
+    yield "%s of %d x %d, %d bit to %d bit, %s" % (
+        pictures(count), plan.width, plan.height, plan.BL_bit_depth, plan.hdr_bit_depth,
+        enhancement_words(plan, enhancement))
+    output = Output(output_name)
+    try:
+        yield from compose_all(plan, count, base, enhancement, output, standby)
+        adler = output.move()
+    except NotWritten:
+        output.remove()
+        raise
+    yield "%s: %s, Adler-32 %d" % (output_name, pictures(count), adler)
+
+
+def answer(given):
+    """The lines for a word list, while its files are read and written."""
+    standby = given[:1] == [STANDBY]
+    names = given[1:] if standby else given
+    whole = len(names) - len(names) % GROUP
+    for at in range(0, whole, GROUP):
+        try:
+            yield from group(standby, *names[at:at + GROUP])
+            yield "written"
+        except NotWritten as why:
+            yield str(why)
+            yield "not written"
+    if whole == 0 or whole < len(names):
+        yield USE
+        yield "not written"
 
 
 def main():
-    if len(sys.argv) != 5:
-        sys.exit("usage: picture.py BLOCK BASE ENHANCEMENT OUTPUT")
-    picture, lines = compose_file(*sys.argv[1:4], os.path.basename(sys.argv[4]))
-    with open(sys.argv[4], "wb") as file:
-        file.write(picture)
-    print("\n".join(lines))
+    for line in answer(sys.argv[1:]):
+        sys.stdout.buffer.write(os.fsencode(line + "\n"))
+        sys.stdout.buffer.flush()
 
 
 if __name__ == "__main__":

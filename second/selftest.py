@@ -1,20 +1,28 @@
 """Checks the second program against the house rules' examples and hand work."""
 
 import copy
+import os
 import struct
+import tempfile
+import zlib
 
 import answers
 import block
 import block_cases
 import composer
 import inspect_block
+import inspect_cases
 import jobs
+import large
 import limits
 import make_vectors
 import night_cases
 import nights
+import picture
 import places
 import plan_cases
+import sample_cases
+import words
 from composer import (Plan, assign_pivot_values, compose_row_pairs, derive_pivot_idx,
                       inverse_quantization, map_sample, reconstruct)
 
@@ -593,14 +601,14 @@ def test_what_is_said():
     24 and 29 the numbers after it.
     """
     good = block.write(small_plan())
-    assert len(good) == 138 and inspect_block.inspect("x", good)[1] == "ccm_profile 1"
+    assert len(good) == 138 and inspect_block.inspect("x", good)[-1] == "shown"
 
-    def said(*edits):
+    def said(place, value, before=b""):
         data = bytearray(good)
-        for place, value in edits:
-            data[place] = value
-        name, refusal, found = inspect_block.inspect("x", bytes(data))
-        return refusal.split(":")[0], found
+        data[place] = value
+        line, last = inspect_block.inspect("x", before + data)
+        assert last == "not shown"
+        return line
 
     n, order, integer = limits.N[-1], limits.ORDERS[-1], limits.NLQ_INTS[-1]
     low, high = limits.COEF_INTS[0], limits.COEF_INTS[-1]
@@ -625,9 +633,210 @@ def test_what_is_said():
                                     "allowed A = D0 + 24, D0 > D1 > D2 > 0, version 1, zero 0"),
     ]
     for edit, refusal, found in expected:
-        assert said(edit) == ("refused " + refusal, found), said(edit)
-    assert inspect_block.inspect("x", good[-11:])[2] == "11 bytes, allowed 12 or more"
-    assert inspect_block.inspect("x", good[1:])[2] == "A is 126, allowed at most 125"
+        number, place = refusal.split(" ", 1)
+        whole = "x: refused %s (%s) %s: %s; %s" % (
+            number, words.NAMES[int(number)], place, found, words.ADVICE[int(number)])
+        assert said(*edit) == whole, said(*edit)
+    # A third coefficient is five bytes more, so that linear_deadzone_threshold_int would begin where the section ends.
+    # Bytes before the block move its places.
+    assert said(30, 1, bytes(70000)) == (
+        "x: refused 3 (length) at byte 70058: section 0 is bytes 70024 up to 70058; "
+        "the block was cut or joined wrongly: ask the sender")
+    short = "; hand over the whole block, up to its last byte"
+    assert inspect_block.inspect("x", good[-11:])[0] == "x: refused 1 (short): 11 bytes, allowed 12 or more" + short
+    assert inspect_block.inspect("x", good[1:])[0] == "x: refused 1 (short): A is 126, allowed at most 125" + short
+
+
+def test_what_is_shown():
+    """By hand: the same block with two pieces of luma, 12 bytes and a pivot more, so that section 1 begins at 72."""
+    plan = small_plan(pivots=(0, 1023))
+    set_section(plan, 0, (16, 516, 516), [(-1, 1 << 15), (-(64 << 15), 3)])
+    plan.nlq_offset[0], plan.fp_linear_deadzone_slope[0] = 512, (1 << 15) + 1
+    lines = inspect_block.inspect("x", bytes(5) + block.write(plan))
+    assert lines[:13] == [
+        "x, 157 bytes", "header at byte 5", "  ccm_profile 1", "  ccm_level 0", "  coefficient_log2_denom 15",
+        "  BL_bit_depth_minus8 2", "  EL_bit_depth_minus8 2", "  hdr_bit_depth_minus8 4", "  disable_residual_flag 0",
+        "  W/2 1", "  H/2 1", "  max_display_mastering_luminance 1000 cd/m2",
+        "  min_display_mastering_luminance 0 x 0.0001 cd/m2"]
+    # 1 / 2^15 is 0.000030517...; -1 / 2^15 is rounded down to -0.000031.
+    assert lines[13:32] == [
+        "section 0, Y, at byte 29", "  num_pivots_minus2 1", "  pred_pivot_value 16 500 0", "  pivot_value 16 516 516",
+        "  piece 0", "    mapping_idc 0", "    poly_order_minus1 0",
+        "    poly_coef_int[0] -1 + poly_coef[0] 32767/2^15, about -0.000031",
+        "    poly_coef_int[1] 1 + poly_coef[1] 0/2^15, about 1.000000",
+        "  piece 1", "    mapping_idc 0", "    poly_order_minus1 0",
+        "    poly_coef_int[0] -64 + poly_coef[0] 0/2^15, about -64.000000",
+        "    poly_coef_int[1] 0 + poly_coef[1] 3/2^15, about 0.000091",
+        "  nlq_offset 512", "  hdr_in_max_int 0 + hdr_in_max 0/2^15, about 0.000000",
+        "  linear_deadzone_slope_int 1 + linear_deadzone_slope 1/2^15, about 1.000030",
+        "  linear_deadzone_threshold_int 0 + linear_deadzone_threshold 0/2^15, about 0.000000",
+        "section 1, Cb, at byte 77"]
+    assert lines[-7:] == ["trailer at byte 145", "  A 140", "  D0 116", "  D1 68", "  D2 34", "  version 1", "shown"]
+
+
+def test_what_is_drawn():
+    """By hand: E10 and E11 in section 0, pivots 100 and 200, so that codes below 100 come to 6,400 and those from 200
+    to 12,800; E4 in section 1, everything cut at the top. A code is 256 units wide."""
+    plan = small_plan()
+    set_section(plan, 0, (100, 200), [(0, 1 << 15)])
+    set_section(plan, 1, (0, 1023), [(63 << 15, 0)])
+    lines = inspect_block.inspect("x", block.write(plan), plotted=True)
+    assert len(lines) == 9 and lines[0].startswith("<svg ") and lines[-2].endswith("</svg>") and lines[-1] == "shown"
+    assert lines[1].endswith(">Y: pieces 1, codes 0 to 1023, mapped samples 6400 to 12800</text><text y=\"-9\">pivots 100 200")
+    assert ('<path class="a" d="M25600 0h25600v65536h-25600"/><path class="p" d="M25600 0v65536"/>'
+            '<path class="p" d="M51200 0v65536"/>') in lines[2]
+    assert 'd="M 0 59135 256 59135 ' in lines[2] and " 51200 52735 " in lines[2] and '261888 52735"/>' in lines[2]
+    assert '<path class="x" d=""/>' in lines[2]
+    assert '<path class="x" d="M0 0h256M256 0h256M512 0h256' in lines[4] and lines[4].count("h256M") == 1023
+
+
+def test_what_inspect_answers():
+    """Words in any order; the rest of the words is answered after a fault."""
+    good = block.write(small_plan())
+    read = inspect_cases.reader([inspect_cases.Shown("x", good, 0)])
+    shown = inspect_block.inspect("x", good)
+    use = ["use: inspect [--rules] [--plot] BLOCK...", "not shown"]
+    assert inspect_block.answer([], read) == inspect_block.answer(["--plot"], read) == use
+    assert inspect_block.answer(["y", "x"], read) == ["y: cannot be read: no such file or folder", "not shown"] + shown
+    assert inspect_block.answer(["--plot", ".", "x", "--plot"], read) == (
+        [".: cannot be read: it is a folder", "not shown"] + shown + use)
+    rules = inspect_block.answer(["--rules"], read)
+    assert rules[0] == "1 short: hand over the whole block, up to its last byte"
+    assert rules[10:] == ["11 sample: the decoder handed over a broken picture", "shown"]
+
+
+class Folder:
+    """A folder of its own for files by name, and what compose_file says in it."""
+
+    def __enter__(self):
+        self.room = tempfile.TemporaryDirectory()
+        return self
+
+    def __exit__(self, *_):
+        self.room.cleanup()
+
+    def path(self, name):
+        return os.path.join(self.room.name, name)
+
+    def put(self, name, data):
+        with open(self.path(name), "wb") as file:
+            file.write(data)
+
+    def said(self, *names, standby=False):
+        """The lines, with the names as they were put."""
+        given = [name if name == picture.NONE else self.path(name) for name in names]
+        lines = picture.answer(["--standby"] * standby + given)
+        return [line.replace(self.path(""), "") for line in lines]
+
+    def left(self):
+        return sorted(os.listdir(self.room.name))
+
+
+def raw(*samples):
+    return struct.pack("<%dH" % len(samples), *samples)
+
+
+def test_compose_file():
+    """By hand: 2 x 10 has five row pairs, 30 samples, 60 bytes; 10 bit code s comes to 4s."""
+    base = list(range(100, 130))
+    with Folder() as folder:
+        folder.put("block", block.write(tall_plan(5)))
+        folder.put("base", raw(*base))
+        first = "1 picture of 2 x 10, 10 bit to 12 bit, base only"
+        adler = "Adler-32 %d" % zlib.adler32(raw(*(4 * s for s in base)))
+        assert folder.said("block", "base", "none", "out") == [first, "out: 1 picture, " + adler, "written"]
+        assert picture.contents(folder.path("out")) == raw(*(4 * s for s in base))
+        assert folder.said("block", "base", "none", "out", standby=True) == [
+            first, "picture 0, row pairs 0 to 4", "job, 2 row pairs from 0: 3 row pairs left",
+            "standby; the jobs in flight are sent again", "job, 2 row pairs from 0: 3 row pairs left",
+            "job, 3 row pairs from 2: complete", "out: 1 picture, " + adler, "written"]
+        assert folder.left() == ["base", "block", "out"]
+        # Luma has 20 samples, Cb and Cr five each: 27 is Cr of row 2.
+        folder.put("large", raw(*base, *base[:27], 1024, 9999, 1))
+        assert folder.said("block", "large", "none", "out") == [
+            first.replace("1 picture", "2 pictures"),
+            "large: refused 11 (sample): picture 1, Cr row 2 column 0 is 1024, allowed less than 1024; "
+            "the decoder handed over a broken picture", "not written"]
+        assert folder.said("block", "base", "large", "out") == [
+            "large: refused 9 (run): 120 bytes, allowed 60, as the base has; hand over whole pictures of this size",
+            "not written"]
+        assert folder.left() == ["base", "block", "large", "out"]
+        folder.put("out.part", b"")
+        assert folder.said("block", "base", "none", "out")[1:] == [
+            "out: cannot be written: out.part is in the way: another compose writes it, or one was stopped; remove it",
+            "not written"]
+        assert folder.said("block", "base", "none", "out", "block")[-2:] == [picture.USE, "not written"]
+        assert folder.left() == ["base", "block", "large", "out", "out.part"]
+
+
+def test_bands():
+    """98,304 samples: 8 row pairs of 4096, and 16,384 row pairs of 2, of which no picture has so many."""
+    plan = tall_plan(1152)
+    assert picture.bands(plan) == [(0, 1152)]
+    plan.half_width = 2048
+    assert picture.bands(plan) == [(8 * i, 8) for i in range(144)]
+    plan.half_width, plan.half_height = 960, 540                # 98,304 / 5,760 is 17.07
+    assert picture.bands(plan)[-2:] == [(17 * 30, 17), (17 * 31, 13)]
+    plan.half_width, plan.half_height = 2048, 9
+    assert picture.bands(plan) == [(0, 8), (8, 1)]
+
+
+def composes_whole(case):
+    """Whether a case of sample_vectors composes every row pair of its picture."""
+    number, _ = jobs.job(case.plan, case.first, case.count, case.base, case.enhancement, list(case.base))
+    return number == 0 and case.count == case.plan.half_height
+
+
+def test_large():
+    """large.py composes what picture.py composes: several pictures, both depths, with and without an enhancement."""
+    chosen = [case for case in sample_cases.all_cases()[::20] if composes_whole(case)]
+    assert len(chosen) >= 20
+    assert {case.plan.BL_bit_depth for case in chosen} == {8, 10}
+    for case in chosen:
+        enhancement = case.enhancement if case.plan.disable_residual_flag == 0 else []
+        _, composed = jobs.job(case.plan, case.first, case.count, case.base, case.enhancement, list(case.base))
+        assert large.compose(case.plan, case.base, enhancement) == raw(*composed), case.kind
+    with Folder() as folder:
+        for flag in (0, 1):
+            folder.put("block", block.write(tall_plan(3, flag)))
+            folder.put("base", raw(*range(36)))
+            folder.put("enhancement", raw(*range(500, 536)))
+            for enhancement in ("enhancement", "none"):
+                assert folder.said("block", "base", enhancement, "out")[-1] == "written"
+                names = [folder.path(name) for name in ("block", "base")]
+                names.append(enhancement if enhancement == "none" else folder.path(enhancement))
+                assert large.compose_file(*names) == picture.contents(folder.path("out"))
+
+
+def code_blocks(page):
+    """The indented parts of a page, each as its lines without the indentation."""
+    parts, last = [], False
+    for line in page.splitlines():
+        code = line.startswith("    ")
+        if code and not last:
+            parts.append([])
+        if code:
+            parts[-1].append(line[4:])
+        last = code
+    return parts
+
+
+def test_readme():
+    """What README quotes of the programs is what they say, and its ten lines are ten_lines'."""
+    root = os.path.join(os.path.dirname(os.path.abspath(__file__)), "..")
+    page, shown, said, source = (picture.contents(os.path.join(root, *path)).decode() for path in (
+        ["README.md"], ["crates", "inspect", "stdout"], ["crates", "compose_file", "stdout"],
+        ["crates", "ten_lines", "src", "main.rt"]))
+    parts = code_blocks(page)
+    refusal, = [part for part in parts if "refused" in part[0]]
+    assert " ".join(line.strip() for line in refusal) in shown
+    section, = [part for part in parts if part[0].startswith("section 0")]
+    assert "\n".join(section) in shown
+    lines, = [part for part in parts if "block::read" in "".join(part)]
+    assert len(lines) == 10 and "\n".join("    " + line for line in lines) in source
+    night, = [part for part in parts if part[0].startswith("1 picture of")]
+    for line in night[:-1]:
+        assert line == "..." or line.replace("target/example/", "") + "\n" in said, line
 
 
 def main():

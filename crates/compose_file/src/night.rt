@@ -1,152 +1,172 @@
-// The jobs of one picture, and the standby in the middle of them.
-use crate::sample::say_samples;
+// The jobs of one band, which is opened as a picture of its own height. With --standby each of them is said.
+use crate::bands::Band;
+use crate::group::Names;
+use crate::sample::say_sample;
+use crate::schedule::Named;
+use crate::schedule::job_at;
+use crate::schedule::jobs_of;
+use crate::schedule::standby_at;
 use jobs::Answer;
 use jobs::Opened;
 use jobs::compose_job;
+use jobs::is_complete;
+use jobs::number;
 use jobs::open_picture;
 use plan::Plan;
 use saying::say;
 use saying::say_number;
-use saying::say_rule;
-ghost use Prim.Native.Nat.{_<_, _≤_};
 
-// Sends one job and says what it answers; false where it is refused.
+// What the jobs of a band have in common.
+pub(crate) struct Task {
+    pub(crate) names: Names,
+    pub(crate) band: Band,
+    pub(crate) standby: bool,
+}
+
+// How far a band is after a job.
+pub(crate) const REFUSED: u8 = 0;
+
+const ACCEPTED: u8 = 1;
+
+pub(crate) const COMPLETE: u8 = 2;
+
+// What a job's answer comes to. That nothing is left is for the proved function to say.
+fn state_of(answer: Answer) -> u8 {
+    if number(answer) != 0 {
+        return REFUSED;
+    }
+    if is_complete(answer) {
+        COMPLETE
+    } else {
+        ACCEPTED
+    }
+}
+
+fn wide(x: u16) -> usize {
+    x as usize
+}
+
+// A call's result is known to be 16 bits wide, where a struct's number is not.
+fn count_of(band: Band) -> u16 {
+    band.count
+}
+
+// The last of `count` row pairs from `first` on.
+fn last_of(first: u16, count: u16) -> usize {
+    let end = (first as usize) + (count as usize);
+    if end == 0 { 0 } else { end - 1 }
+}
+
+// A row pair of the band, counted from the picture's first.
+fn in_picture(first: u16, in_band: u16) -> usize {
+    (first as usize) + (in_band as usize)
+}
+
+// How many row pairs a band has.
+pub(crate) fn pairs_in(band: Band) -> usize {
+    wide(band.count)
+}
+
+fn say_answer(answer: Answer) {
+    if is_complete(answer) {
+        say(b": complete\n");
+        return;
+    }
+    if let Answer::Done(left) = answer {
+        say(b": ");
+        say_number(left);
+        say(b" row pairs left\n");
+    }
+}
+
+// Sends one job, whose row pairs count from the band's first.
 fn send(
+    t: Task,
     plan: Plan,
-    ticket: u32,
-    first: usize,
-    count: usize,
+    j: Named,
     base: &[u16],
     enhancement: &[u16],
     output: &mut [u16],
     marks: &mut [u8],
-) -> bool {
+) -> u8 {
     let answer = compose_job(
         plan,
-        ticket,
-        ticket,
-        first,
-        count,
+        1,
+        1,
+        wide(j.first),
+        wide(j.count),
         base,
         enhancement,
         output,
         marks,
     );
+    let refusal = number(answer);
+    if refusal != 0 {
+        say_sample(t, plan.header, refusal, j, base, enhancement);
+        return REFUSED;
+    }
+    if t.standby {
+        say_job(t.band, j);
+        say_answer(answer);
+    }
+    state_of(answer)
+}
+
+fn say_job(band: Band, j: Named) {
     say(b"job, ");
-    say_number(count);
+    say_number(wide(j.count));
     say(b" row pairs from ");
-    say_number(first);
-    match answer {
-        Answer::Done(left) => {
-            if left == 0 {
-                say(b": complete\n");
-            } else {
-                say(b": ");
-                say_number(left);
-                say(b" row pairs left\n");
-            }
-            true
-        }
-        Answer::Refused(number) => {
-            say(b": refused ");
-            say_number(number as usize);
-            say(b", ");
-            say_rule(number);
-            say(b"\n");
-            if number == 11 {
-                say_samples(plan, base, enhancement);
-            }
-            false
-        }
+    say_number(in_picture(band.first, j.first));
+}
+
+// What is said before job k: the band, and the standby.
+fn say_before(standby: bool, band: Band, k: u16) {
+    if !standby {
+        return;
+    }
+    if k == 0 {
+        say_band(band);
+    }
+    if k == standby_at(count_of(band)) {
+        say(b"standby; the jobs in flight are sent again\n");
     }
 }
 
-// How many row pairs the next job names: eight, or what is left.
-fn batch(left: usize) -> usize
-    requires { ⌜ 0 < left ⌝ }
-    ensures { λ r. ⌜ (0 < r) × (r ≤ left) ⌝ }
-{
-    if left < 8 { left } else { 8 }
+fn say_band(band: Band) {
+    say(b"picture ");
+    say_number(band.picture);
+    say(b", row pairs ");
+    say_number(wide(band.first));
+    say(b" to ");
+    say_number(last_of(band.first, band.count));
+    say(b"\n");
 }
 
-// The row pairs from `from` up to `to`.
-fn send_all(
-    plan: Plan,
-    ticket: u32,
-    from: usize,
-    to: usize,
-    base: &[u16],
-    enhancement: &[u16],
-    output: &mut [u16],
-    marks: &mut [u8],
-) -> bool {
-    let mut first = from;
-    while first < to {
-        let count = batch(to - first);
-        if !send(plan, ticket, first, count, base, enhancement, output, marks) {
-            return false;
-        }
-        first += count;
-    }
-    true
-}
-
-// The jobs that were in flight at a standby in the middle again, and then the rest.
-fn send_rest(
-    plan: Plan,
-    ticket: u32,
-    half: usize,
-    pairs: usize,
-    base: &[u16],
-    enhancement: &[u16],
-    output: &mut [u16],
-    marks: &mut [u8],
-) -> bool {
-    let flight = if half < 16 { 0 } else { half - 16 };
-    if !send_all(plan, ticket, flight, half, base, enhancement, output, marks) {
-        return false;
-    }
-    send_all(plan, ticket, half, pairs, base, enhancement, output, marks)
-}
-
-// The first half of the row pairs, a standby, and what is left after it.
-fn send_night(
-    plan: Plan,
-    ticket: u32,
-    pairs: usize,
-    base: &[u16],
-    enhancement: &[u16],
-    output: &mut [u16],
-    marks: &mut [u8],
-) -> bool {
-    let half = pairs / 2;
-    if !send_all(plan, ticket, 0, half, base, enhancement, output, marks) {
-        return false;
-    }
-    say(b"standby; the jobs in flight are sent again\n");
-    send_rest(plan, ticket, half, pairs, base, enhancement, output, marks)
-}
-
-// Opens the picture and sends its jobs.
-pub(crate) fn compose_night(
+// Opens the band, as a picture of its height, and sends its jobs.
+pub(crate) fn send_band(
+    t: Task,
     plan: Plan,
     base: &[u16],
     enhancement: &[u16],
     output: &mut [u16],
     marks: &mut [u8],
-) -> bool {
-    let Opened::Open(ticket) = open_picture(plan, 1, marks) else {
+) -> u8 {
+    let Opened::Open(_) = open_picture(plan, 1, marks) else {
         say(b"the picture cannot be opened\n");
-        return false;
+        return REFUSED;
     };
-    let h = plan.header;
-    send_night(
-        plan,
-        ticket,
-        h.pairs as usize,
-        base,
-        enhancement,
-        output,
-        marks,
-    )
+    let count = count_of(t.band);
+    let jobs = jobs_of(t.standby, count);
+    let mut state = ACCEPTED;
+    let mut k: u16 = 0;
+    while k < jobs {
+        say_before(t.standby, t.band, k);
+        let j = job_at(t.standby, count, k);
+        state = send(t, plan, j, base, enhancement, output, marks);
+        if state == REFUSED {
+            return REFUSED;
+        }
+        k += 1;
+    }
+    state
 }

@@ -1,156 +1,61 @@
-// A plan's fields, one a line, under their names in the standard.
-use crate::decimal::say_signed;
-use crate::decimal::say_unsigned;
+// A block that was read: every field, with the byte where its part begins in the file, or the picture of its mappings.
+use crate::list::BYTES;
+use crate::list::show;
+use crate::list::show_component;
+use crate::list::show_header;
+use crate::list::show_trailer;
+use crate::markup::END;
+use crate::markup::START;
+use crate::markup::put_line;
+use crate::plot::plot_component;
 use plan::Component;
 use plan::Header;
-use plan::Nlq;
-use plan::Piece;
 use plan::Plan;
-use plan::limits::PIECES;
-use plan::limits::PIVOTS;
-use saying::say;
-use saying::say_number;
-ghost use mathlib.Core.Bool.{true};
-ghost use mathlib.Core.Path.{_≡_};
-ghost use Rattle.plan.specs.Ranges.{most-n};
-ghost use Prim.Native.Nat.{_<_, _≤_};
-ghost use Rattle.plan.specs.Rule7.{fitting};
+use saying::bytes_before;
+use saying::say_argument;
+use saying::say_part;
 
-fn wide(b: u8) -> usize
-    ensures { λ r. ⌜ (r ≡ b) × (r < 256) ⌝ }
-{
-    b as usize
-}
-
-fn pair(x: u16) -> usize
-    ensures { λ r. ⌜ r < 65536 ⌝ }
-{
-    x as usize
-}
-
-fn show(name: &[u8], v: usize) {
-    say(name);
-    say(b" ");
-    say_number(v);
-    say(b"\n");
-}
-
-fn show_unsigned(name: &[u8], v: u64, d: u8)
-    requires { ⌜ d ≤ 32 ⌝ }
-{
-    say(name);
-    say(b" ");
-    say_unsigned(v, d);
-    say(b"\n");
-}
-
-fn show_signed(name: &[u8], z: i64, d: u8)
-    requires { ⌜ d ≤ 32 ⌝ }
-{
-    say(name);
-    say(b" ");
-    say_signed(z, d);
-    say(b"\n");
-}
-
-fn show_format(h: Header) {
-    show(b"ccm_profile", wide(h.profile));
-    show(b"ccm_level", wide(h.level));
-    show(b"coefficient_log2_denom", wide(h.d));
-    show(b"BL_bit_depth", wide(h.bl) + 8);
-    show(b"EL_bit_depth", wide(h.el) + 8);
-    show(b"hdr_bit_depth", wide(h.hdr) + 8);
-    show(b"disable_residual_flag", wide(h.disabled));
-}
-
-fn show_picture(h: Header) {
-    show(b"width", 2 * pair(h.columns));
-    show(b"height", 2 * pair(h.pairs));
-    say(b"max_display_mastering_luminance ");
-    say_number(pair(h.brightest));
-    say(b" cd/m2\nmin_display_mastering_luminance ");
-    say_number(h.darkest as usize);
-    say(b" x 0.0001 cd/m2\n");
-}
-
-// The pivots' values: the running sums of the pred_pivot_value fields.
-fn show_pivots(n: u8, preds: [u16; PIVOTS])
-    requires { ⌜ n ≤ most-n ⌝ }
-{
-    let count = wide(n) + 2;
-    say(b"  pivot_value");
-    let mut sum: usize = 0;
-    let mut i: usize = 0;
-    while i < count {
-        sum += pair(preds[i]);
-        say(b" ");
-        say_number(sum);
-        i += 1;
+// The file's name and length, and the header.
+fn show_start(i: usize, bytes: &[u8], before: usize, h: Header, plotted: bool) {
+    if plotted {
+        put_line(START);
+        return;
     }
-    say(b"\n");
+    say_argument(i);
+    show(BYTES, files::file_length(i));
+    say_part(0, bytes, before);
+    show_header(h);
 }
 
-fn show_piece(p: usize, q: Piece, d: u8)
-    requires { ⌜ d ≤ 32 ⌝ }
-{
-    let row = q.row;
-    show(b"  piece", p);
-    show(b"    mapping_idc", wide(q.idc));
-    show(b"    poly_order_minus1", wide(q.order));
-    show_signed(b"    fp_poly_coef[0]", row[0], d);
-    show_signed(b"    fp_poly_coef[1]", row[1], d);
-    if q.order != 0 {
-        show_signed(b"    fp_poly_coef[2]", row[2], d);
+// A component, which section k - 1 carries.
+fn show_section(k: usize, bytes: &[u8], before: usize, h: Header, c: Component, plotted: bool) {
+    if plotted {
+        plot_component(k, h, c);
+        return;
     }
+    say_part(k, bytes, before);
+    show_component(c, h.d);
 }
 
-fn show_pieces(n: u8, pieces: [Piece; PIECES], d: u8)
-    requires { ⌜ (n ≤ most-n) × (d ≤ 32) ⌝ }
-{
-    let count = wide(n) + 1;
-    let mut p: usize = 0;
-    while p < count {
-        let q = pieces[p];
-        show_piece(p, q, d);
-        p += 1;
+fn show_end(bytes: &[u8], before: usize, plotted: bool) {
+    if plotted {
+        put_line(END);
+        return;
     }
+    say_part(4, bytes, before);
+    show_trailer(bytes);
 }
 
-fn show_nlq(q: Nlq, d: u8)
-    requires { ⌜ d ≤ 32 ⌝ }
-{
-    show(b"  nlq_offset", pair(q.offset));
-    show_unsigned(b"  fp_hdr_in_max", q.maximum, d);
-    show_unsigned(b"  fp_linear_deadzone_slope", q.slope, d);
-    show_unsigned(b"  fp_linear_deadzone_threshold", q.threshold, d);
-}
-
-fn show_component(c: Component, d: u8)
-    requires { ⌜ (c .n ≤ most-n) × (d ≤ 32) ⌝ }
-{
-    let n = c.n;
-    let preds = c.preds;
-    let pieces = c.pieces;
-    let nlq = c.nlq;
-    show(b"  num_pivots_minus2", wide(n));
-    show_pivots(n, preds);
-    show_pieces(n, pieces, d);
-    show_nlq(nlq, d);
-}
-
-pub(crate) fn show_plan(plan: Plan)
-    requires { ⌜ fitting plan ≡ true ⌝ }
-{
+// The bytes are the last ones of the file that argument i names.
+pub(crate) fn show_block(i: usize, bytes: &[u8], plan: Plan, plotted: bool) {
     let h = plan.header;
     let y = plan.y;
     let cb = plan.cb;
     let cr = plan.cr;
-    show_format(h);
-    show_picture(h);
-    say(b"Y\n");
-    show_component(y, h.d);
-    say(b"Cb\n");
-    show_component(cb, h.d);
-    say(b"Cr\n");
-    show_component(cr, h.d);
+    let before = bytes_before(i, bytes);
+    show_start(i, bytes, before, h, plotted);
+    show_section(1, bytes, before, h, y, plotted);
+    show_section(2, bytes, before, h, cb, plotted);
+    show_section(3, bytes, before, h, cr, plotted);
+    show_end(bytes, before, plotted);
 }

@@ -22,7 +22,8 @@ pub struct Planes {
     pub cr: Plane,
 }
 
-fn chroma_size(columns: u16, pairs: u16) -> usize
+// How many samples so many columns and rows of a chroma plane have.
+pub fn chroma_size(columns: u16, pairs: u16) -> usize
     ensures { λ r. ⌜ (r ≡ columns * pairs) × (r ≤ 2 ^ 32) ⌝ }
 {
     (columns as usize) * (pairs as usize)

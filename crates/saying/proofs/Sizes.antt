@@ -1,4 +1,4 @@
--- The absolute value of an i64, and of one below 0 that value less one. Assumes nothing.
+-- The absolute value of an i64, and of one below 0 that value less one; an i32 as an i64. Assumes nothing.
 use mathlib.Core.Path.{_≡_, refl}
 use mathlib.Core.Bool.{true, false, true≢false}
 use Prim.Native.Nat.{ℕ, suc, _+_, _-_, _^_, _≤_, _<_}
@@ -7,7 +7,7 @@ use lib.Dec.{T}
 use lib.IntN.{ℤ, pos, negsuc, natAbs, _-ℤ_}
 use lib.Signed.{ltZ, nonNeg}
 use mir.Facts.{toZ-ofZ}
-use mir.Syntax.{w64}
+use mir.Syntax.{w32, w64}
 use mir.Val.{SFits, toZ, ofZ}
 use borrow.Author.Tests.{ltb-true, le-ltb}
 
@@ -41,3 +41,10 @@ module _ (z : ℤ) (f : SFits w64 z) where
       cast : (z : ℤ) → SFits w64 z → ltZ z (pos 0) ≡ false → T (nonNeg z) × (natAbs z < 2 ^ 63)
       cast (pos n) f e = (tt, f .sfits)
       cast (negsuc n) f e = absurd (true≢false e)
+
+pub widened : (z : ℤ) → SFits w32 z → SFits w64 (toZ w32 (ofZ w32 z))
+widened z f = rw (toZ-ofZ f) (wider z f)
+  where
+    wider : (z : ℤ) → SFits w32 z → SFits w64 z
+    wider (pos n) f = record { sfits = omega (arith, f .sfits) }
+    wider (negsuc n) f = record { sfits = omega (arith, f .sfits) }

@@ -1,7 +1,6 @@
 // A column of the header (docs/RULES.md, "Header"): its name, what was found there and what is allowed.
-use crate::found;
-use crate::only_zero;
 use crate::say;
+use crate::say_line;
 use crate::say_number;
 use fields::numbers::four;
 use fields::numbers::one;
@@ -25,81 +24,91 @@ use plan::limits::MOST_D;
 use plan::limits::MOST_LUMINANCE;
 use plan::limits::MOST_PAIRS;
 
-fn byte_column(name: &[u8], v: u8, allowed: &[u8]) {
-    say(name);
-    found(v as usize);
-    say(allowed);
+// A column's first byte.
+fn place_of(kind: u8) -> usize {
+    match kind {
+        PROFILE => 0,
+        LEVEL => 1,
+        DENOMINATOR => 2,
+        BL_DEPTH => 3,
+        EL_DEPTH | DEPTHS => 4,
+        HDR_DEPTH => 5,
+        DISABLED => 6,
+        ZERO_7 => 7,
+        COLUMNS => 8,
+        PAIRS => 10,
+        BRIGHTEST => 12,
+        ZERO_14 => 14,
+        DARKEST => 16,
+        _ => 20,
+    }
 }
 
-fn zero_column(name: &[u8], v: usize) {
-    say(name);
-    only_zero(v);
+// What stands there: the columns have one byte up to byte 7, two up to byte 15, and then four.
+fn value_at(head: &[u8], place: usize) -> usize {
+    if place < 8 {
+        one(head, place) as usize
+    } else if place < 16 {
+        two(head, place) as usize
+    } else {
+        four(head, place) as usize
+    }
 }
 
-fn from_one(name: &[u8], v: u16, most: u16) {
-    say(name);
-    found(v as usize);
-    say(b"1 to ");
-    say_number(most as usize);
-    say(b"\n");
+// Both tables have a column's words at the line of its first byte.
+fn say_name(place: usize) {
+    say_line(
+        b"ccm_profile\nccm_level\ncoefficient_log2_denom\nBL_bit_depth_minus8\nEL_bit_depth_minus8\nhdr_bit_depth_minus8\n\
+        disable_residual_flag\nzero (byte 7)\nW/2\n\nH/2\n\nmax_display_mastering_luminance\n\nzero (bytes 14-15)\n\n\
+        min_display_mastering_luminance\n\n\n\nzero (bytes 20-23)\n",
+        place,
+    );
 }
 
-fn say_depths(bl: u8, el: u8) {
-    say(b"EL_bit_depth_minus8");
-    found(el as usize);
+fn say_range(place: usize) {
+    say_line(
+        b"1, 3 or 4\n0\n\n0 or 2\n\n2 or 4\n0 or 1\n0\n1 to \n\n1 to \n\n0 to \n\n0\n\nless than \n\n\n\n0\n",
+        place,
+    );
+}
+
+fn say_depths(bl: u8) {
     say_number(bl as usize);
-    say(b", as BL_bit_depth_minus8 is\n");
+    say(b", as BL_bit_depth_minus8 is");
 }
 
-fn say_denominator(d: u8, el: u8) {
-    say(b"coefficient_log2_denom");
-    found(d as usize);
+fn say_denominators(el: u8) {
     say_number((el as usize) + 8 + 5);
     say(b" to ");
     say_number(MOST_D as usize);
-    say(b"\n");
-}
-
-fn say_brightest(v: u16) {
-    say(b"max_display_mastering_luminance");
-    found(v as usize);
-    say(b"0 to ");
-    say_number(MOST_LUMINANCE as usize);
-    say(b"\n");
 }
 
 // Both luminances in units of 0.0001 cd/m2.
-fn say_darkest(v: u32, brightest: u16) {
-    say(b"min_display_mastering_luminance");
-    found(v as usize);
-    say(b"less than ");
+fn say_darkest(brightest: u16) {
     say_number(10000 * (brightest as usize));
-    say(b"\n");
 }
 
-fn say_size(kind: u8, head: &[u8]) {
+// The words that go by another number, or by a limit of the plan.
+fn say_limit(kind: u8, head: &[u8]) {
     match kind {
-        ZERO_7 => zero_column(b"zero (byte 7)", one(head, 7) as usize),
-        COLUMNS => from_one(b"W/2", two(head, 8), MOST_COLUMNS),
-        PAIRS => from_one(b"H/2", two(head, 10), MOST_PAIRS),
-        BRIGHTEST => say_brightest(two(head, 12)),
-        ZERO_14 => zero_column(b"zero (bytes 14-15)", two(head, 14) as usize),
-        DARKEST => say_darkest(four(head, 16), two(head, 12)),
-        _ => zero_column(b"zero (bytes 20-23)", four(head, 20) as usize),
+        EL_DEPTH => say(b"0 or 2"),
+        DEPTHS => say_depths(one(head, 3)),
+        DENOMINATOR => say_denominators(one(head, 4)),
+        COLUMNS => say_number(MOST_COLUMNS as usize),
+        PAIRS => say_number(MOST_PAIRS as usize),
+        BRIGHTEST => say_number(MOST_LUMINANCE as usize),
+        DARKEST => say_darkest(two(head, 12)),
+        _ => {}
     }
 }
 
 // The column of this kind, in the header that begins `head`.
 pub(crate) fn say_column(kind: u8, head: &[u8]) {
-    match kind {
-        PROFILE => byte_column(b"ccm_profile", one(head, 0), b"1, 3 or 4\n"),
-        LEVEL => byte_column(b"ccm_level", one(head, 1), b"0\n"),
-        BL_DEPTH => byte_column(b"BL_bit_depth_minus8", one(head, 3), b"0 or 2\n"),
-        EL_DEPTH => byte_column(b"EL_bit_depth_minus8", one(head, 4), b"0 or 2\n"),
-        DEPTHS => say_depths(one(head, 3), one(head, 4)),
-        DENOMINATOR => say_denominator(one(head, 2), one(head, 4)),
-        HDR_DEPTH => byte_column(b"hdr_bit_depth_minus8", one(head, 5), b"2 or 4\n"),
-        DISABLED => byte_column(b"disable_residual_flag", one(head, 6), b"0 or 1\n"),
-        _ => say_size(kind, head),
-    }
+    let place = place_of(kind);
+    say_name(place);
+    say(b" is ");
+    say_number(value_at(head, place));
+    say(b", allowed ");
+    say_range(place);
+    say_limit(kind, head);
 }

@@ -1,26 +1,29 @@
 use borrow.Author.Needs.{needs}
-use Prim.Native.Nat.{_-_, _≤_}
-use lib.ListN.{length}
+use Prim.{Unit}
+use Prim.Native.Nat.{_-_}
 use Rattle.compose_file.proofs.sample.first_large.Statement.{statement}
 use Rattle.compose_file.proofs.sample.first_large.Tie as tie
 
 abbrev Inv-loop : tie.InvT-loop
-Inv-loop limit run i₀ i = i ≤ length run
+Inv-loop limit run from to i₀ i = Unit {0}
 
 abbrev μ-loop : tie.MeasureT-loop
-μ-loop limit run i₀ i = length run - i
+μ-loop limit run from to i₀ i = to - i
 
 loop-holds : tie.Need-loop-holds Inv-loop μ-loop
 loop-holds c = search needs
 
-mul-if1 : tie.Need-mul-if1 Inv-loop μ-loop
-mul-if1 c = search needs
-
-shared-slice-read-if1 : tie.Need-shared-slice-read-if1 Inv-loop μ-loop
-shared-slice-read-if1 c = search needs
-
 returns : tie.Need-returns Inv-loop μ-loop
 returns c = search needs
+
+mul-if2 : tie.Need-mul-if2 Inv-loop μ-loop
+mul-if2 c = search needs
+
+shared-slice-read-if2 : tie.Need-shared-slice-read-if2 Inv-loop μ-loop
+shared-slice-read-if2 c = search needs
+
+returns-2 : tie.Need-returns-2 Inv-loop μ-loop
+returns-2 c = search needs
 
 add-i : tie.Need-add-i Inv-loop μ-loop
 add-i c = search needs
@@ -31,8 +34,8 @@ loop-less c = search needs
 loop-again : tie.Need-loop-again Inv-loop μ-loop
 loop-again c = search needs
 
-returns-2 : tie.Need-returns-2 Inv-loop μ-loop
-returns-2 c = search needs
+returns-3 : tie.Need-returns-3 Inv-loop μ-loop
+returns-3 c = search needs
 
 pub first-large-spec : {M : Type 1} → statement M
 first-large-spec =
@@ -41,10 +44,11 @@ first-large-spec =
     Inv-loop
     μ-loop
     loop-holds
-    mul-if1
-    shared-slice-read-if1
     returns
+    mul-if2
+    shared-slice-read-if2
+    returns-2
     add-i
     loop-less
     loop-again
-    returns-2)
+    returns-3)

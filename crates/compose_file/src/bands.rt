@@ -1,0 +1,89 @@
+// A picture is composed band by band, each a picture of its own height: a sample depends on its own row pair only. So any picture goes
+// through a small memory, and a band is read from and written to its places in the planes of the file.
+use files::load;
+use files::store;
+use picture::chroma_size;
+use std::num::wrapping_add_usize;
+ghost use Prim.Native.Nat.{_<_, _≤_};
+
+// The samples of a band at most: eight row pairs of the widest picture.
+pub(crate) const BAND: usize = 98304;
+
+// Row pairs of a picture, whose first byte in the file is `start`.
+pub(crate) struct Band {
+    pub(crate) picture: usize,
+    pub(crate) start: usize,
+    pub(crate) columns: u16,
+    pub(crate) pairs: u16,
+    pub(crate) first: u16,
+    pub(crate) count: u16,
+}
+
+// How many row pairs of so many columns fit in a band; at least one.
+fn fitting(columns: u16) -> u16
+    ensures { λ r. ⌜ 0 < r ⌝ }
+{
+    if columns == 0 {
+        return 1;
+    }
+    let most = 16384 / columns;
+    if most == 0 { 1 } else { most }
+}
+
+// How many row pairs the next band has, where so many are left.
+pub(crate) fn band_of(columns: u16, left: u16) -> u16
+    requires { ⌜ 0 < left ⌝ }
+    ensures { λ r. ⌜ (0 < r) × (r ≤ left) ⌝ }
+{
+    let most = fitting(columns);
+    if left < most { left } else { most }
+}
+
+// Loads a part of the run, where the run has it.
+fn load_plane(fd: i32, place: usize, at: usize, n: usize, run: &mut [u16]) -> bool {
+    if run.len() < at {
+        return false;
+    }
+    if run.len() - at < n {
+        return false;
+    }
+    load(fd, place, &mut run[at..at + n])
+}
+
+fn store_plane(fd: i32, place: usize, at: usize, n: usize, run: &[u16]) -> bool {
+    if run.len() < at {
+        return false;
+    }
+    if run.len() - at < n {
+        return false;
+    }
+    store(fd, place, &run[at..at + n])
+}
+
+// The band from the file; false where it cannot be read.
+pub(crate) fn load_band(fd: i32, b: Band, run: &mut [u16]) -> bool {
+    let plane = chroma_size(b.columns, b.pairs);
+    let above = chroma_size(b.columns, b.first);
+    let n = chroma_size(b.columns, b.count);
+    let y = wrapping_add_usize(b.start, 8 * above);
+    let cb = wrapping_add_usize(b.start, 8 * plane + 2 * above);
+    let cr = wrapping_add_usize(b.start, 10 * plane + 2 * above);
+    let has_y = load_plane(fd, y, 0, 4 * n, run);
+    let has_cb = load_plane(fd, cb, 4 * n, n, run);
+    let has_cr = load_plane(fd, cr, 5 * n, n, run);
+    has_y & (has_cb & has_cr)
+}
+
+// The band to the file; false where it cannot be written.
+pub(crate) fn store_band(fd: i32, b: Band, run: &[u16]) -> bool {
+    let plane = chroma_size(b.columns, b.pairs);
+    let above = chroma_size(b.columns, b.first);
+    let n = chroma_size(b.columns, b.count);
+    let y = wrapping_add_usize(b.start, 8 * above);
+    let cb = wrapping_add_usize(b.start, 8 * plane + 2 * above);
+    let cr = wrapping_add_usize(b.start, 10 * plane + 2 * above);
+    let has_y = store_plane(fd, y, 0, 4 * n, run);
+    let has_cb = store_plane(fd, cb, 4 * n, n, run);
+    let has_cr = store_plane(fd, cr, 5 * n, n, run);
+    has_y & (has_cb & has_cr)
+}

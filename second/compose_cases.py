@@ -1,0 +1,245 @@
+"""The gate's run of compose_file: its word list in groups of four, and the files that the words name.
+
+The first word is --standby, so every group says its jobs, and its pictures are small.  What a group is to show
+stands with it; `checked` stops where it shows another.
+"""
+
+import struct
+from collections import namedtuple
+
+import block
+import limits
+
+# `shows` stands in the line that says why nothing is written; it is None where the group is written.
+Group = namedtuple("Group", "block base enhancement output shows")
+
+SOURCES = ["block", "base.yuv", "enhancement.yuv"]      # the example, which example/make.py made
+LEFT_OVER = "left_over"                                 # a last word that belongs to no group
+WIDTH, HEIGHT = 16, 36                                  # of the small pictures: 18 row pairs
+CHROMA = WIDTH * HEIGHT // 4
+OUT = "out.yuv"
+
+
+def sized(good, width, height, **changes):
+    """The block of a picture of another size, with these fields of its plan changed."""
+    number, plan = block.read(good)
+    assert number == 0
+    plan.half_width, plan.half_height = width // 2, height // 2
+    for name, value in changes.items():
+        setattr(plan, name, value)
+    return block.write(plan)
+
+
+def good_blocks(good):
+    small = sized(good, WIDTH, HEIGHT)
+    pivots = [[value // 4 for value in values] for values in block.read(good)[1].pred_pivot_value]
+    return {
+        "small.block": small,
+        "flag.block": sized(good, WIDTH, HEIGHT, disable_residual_flag=1),
+        "eight_bit.block": sized(good, WIDTH, HEIGHT, BL_bit_depth_minus8=0, EL_bit_depth_minus8=0,
+                                 hdr_bit_depth_minus8=2, pred_pivot_value=pivots, nlq_offset=[128] * 3),
+        "quarter.block": sized(good, 96, 54),
+        "wide.block": sized(good, 4096, 22),                    # bands of 8 and 3 row pairs
+        "tiny.block": sized(good, 2, 2),
+        "behind_zeros.block": bytes(70000) + small,
+    }
+
+
+def refused_blocks(good):
+    """{name: (block, its number)}."""
+    t = len(good) - limits.TRAILER_BYTES
+    a, d0, d1, d2 = struct.unpack_from(">4H", good, t)
+    header, y, cb = t - a, t - d0, t - d1
+
+    def put(place, value):
+        return good[:place] + bytes([value]) + good[place + 1:]
+
+    def first_piece(section):
+        return section + 1 + 2 * limits.pivots(good[section])
+
+    left_over = good[:cb] + b"\0" + good[cb:t] + struct.pack(">4H", a + 1, d0 + 1, d1, d2) + good[t + 8:]
+    profile = put(header, 2)
+    # zeros, and a trailer that points back as far as one can: 65,547 bytes hold all that it points to
+    far = bytes(1 + 0xffff) + struct.pack(">6H", 0xffff, 0xffff - limits.HEADER_BYTES, 2, 1, limits.VERSIONS[0], 0)
+    return {
+        "eleven.block": (good[1 - limits.TRAILER_BYTES:], 1),
+        "cut.block": (good[header + 1:], 1),
+        "version.block": (put(t + 9, limits.VERSIONS[-1] + 1), 2),
+        "left_over.block": (left_over, 3),
+        "profile.block": (profile, 4),
+        "profile_behind_zeros.block": (bytes(70000) + profile, 4),
+        "far.block": (far, 4),
+        "too_far.block": (far[2:], 1),
+        "coefficient.block": (put(first_piece(y) + 2, limits.COEF_INTS[-1] + 1), 5),
+        "mmr.block": (put(first_piece(cb), limits.MMR), 6),
+    }
+
+
+def place(cmp, row, column):
+    """The index of a sample in a small picture."""
+    if cmp == "Y":
+        return row * WIDTH + column
+    return WIDTH * HEIGHT + ("Cb", "Cr").index(cmp) * CHROMA + row * (WIDTH // 2) + column
+
+
+def raw(run):
+    return struct.pack("<%dH" % len(run), *run)
+
+
+def broken(run, *faults):
+    """The run with samples that are too large: (component, row, column, value)."""
+    run = list(run)
+    for cmp, row, column, value in faults:
+        run[place(cmp, row, column)] = value
+    return raw(run)
+
+
+def picture_files():
+    size = 6 * CHROMA
+    small = [37 * i % 1024 for i in range(size)]
+    other = [(51 * i + 400) % 1024 for i in range(size)]
+    row = [x // 4 for x in range(4096)]
+    return {
+        "small.yuv": raw(small),
+        "small_enhancement.yuv": raw(other),
+        "eight_bit.yuv": raw([s // 4 for s in small]),
+        "in_place.yuv": raw(other),
+        "two.yuv": raw(small + other),
+        "wide.yuv": raw(row * 22 + row[::2] * 22),
+        "tiny.yuv": raw(small[:6]),
+        "folder/small.yuv": raw(small),
+        "short.yuv": raw(small)[:-1],
+        "long.yuv": raw(small) + b"\0",
+        "empty": b"",
+        "large_y.yuv": broken(small, ("Y", 0, 0, 1024)),
+        "large_cb.yuv": broken(small, ("Cb", 17, 7, 65535)),
+        "large_cr.yuv": broken(small, ("Cr", 8, 3, 4096)),
+        # Y in a later job than the others, and Cb before Cr although its row comes after
+        "large_all.yuv": broken(small, ("Y", 30, 1, 1025), ("Cb", 3, 0, 1026), ("Cr", 2, 1, 1027)),
+        "large_later.yuv": raw(small) + broken(other, ("Y", 35, 15, 2048)),
+        "taken.yuv.part": b"another compose writes this\n",
+    }
+
+
+def written_groups():
+    return [
+        Group("small.block", "small.yuv", "small_enhancement.yuv", OUT, None),
+        Group("small.block", "small.yuv", "none", OUT, None),            # takes the place of the one before
+        Group("flag.block", "small.yuv", "short.yuv", "flag.yuv", None),
+        Group("flag.block", "small.yuv", "missing.yuv", "flag.yuv", None),
+        Group("flag.block", "small.yuv", "none", "flag.yuv", None),
+        Group("eight_bit.block", "eight_bit.yuv", "eight_bit.yuv", "eight_bit.hdr.yuv", None),
+        Group("quarter.block", "base.yuv", "enhancement.yuv", "quarters.yuv", None),
+        Group("wide.block", "wide.yuv", "none", "wide.hdr.yuv", None),
+        Group("tiny.block", "tiny.yuv", "tiny.yuv", "tiny.hdr.yuv", None),
+        Group("behind_zeros.block", "two.yuv", "none", "folder/a name with spaces.yuv", None),
+        Group("small.block", "in_place.yuv", "none", "in_place.yuv", None),
+        Group("small.block", "in_place.yuv", "none", OUT, "refused 11 (sample): picture 0, Y row 0"),
+    ]
+
+
+def unread_groups():
+    long = "long" * 75
+    return [
+        Group("missing.block", "small.yuv", "none", OUT, "missing.block: cannot be read: no such file or folder"),
+        Group(".", "small.yuv", "none", OUT, ".: cannot be read: it is a folder"),
+        Group("block/block", "small.yuv", "none", OUT, "cannot be read: a folder of its path is a file"),
+        Group("small.block", "missing.yuv", "none", OUT, "missing.yuv: cannot be read: no such file or folder"),
+        Group("small.block", ".", "none", OUT, ".: cannot be read: it is a folder"),
+        Group("small.block", "", "none", OUT, ": cannot be read: no such file or folder"),
+        Group("small.block", long, "none", OUT, long + ": cannot be read: error 36"),
+        Group("small.block", "none", "none", OUT, "none: cannot be read: no such file or folder"),
+        Group("small.block", "small.yuv", "missing.yuv", OUT,
+              "missing.yuv: cannot be read: no such file or folder"),
+        Group("small.block", "small.yuv", ".", OUT, ".: cannot be read: it is a folder"),
+        # the first fault is said: the base is opened before the enhancement
+        Group("small.block", "short.yuv", "missing.yuv", OUT, "short.yuv: refused 9 (run): 1727 bytes"),
+    ]
+
+
+def length_groups():
+    size = 12 * CHROMA
+    return [
+        Group("small.block", "short.yuv", "none", OUT, "%d bytes, allowed %d for each picture" % (size - 1, size)),
+        Group("small.block", "long.yuv", "none", OUT, "%d bytes, allowed %d for each picture" % (size + 1, size)),
+        Group("small.block", "empty", "none", OUT, "empty: refused 9 (run): 0 bytes, allowed %d for each" % size),
+        Group("small.block", "small.yuv", "two.yuv", OUT, "two.yuv: refused 9 (run): %d bytes" % (2 * size)),
+        Group("small.block", "two.yuv", "small.yuv", OUT, "%d bytes, allowed %d, as the base has" % (size, 2 * size)),
+        Group("small.block", "small.yuv", "empty", OUT, "0 bytes, allowed %d, as the base has" % size),
+    ]
+
+
+def sample_groups():
+    def large(base, enhancement, found):
+        return Group("small.block", base, enhancement, OUT, found)
+    return [
+        large("large_y.yuv", "none", "large_y.yuv: refused 11 (sample): picture 0, Y row 0 column 0 is 1024"),
+        large("large_cb.yuv", "none", "Cb row 17 column 7 is 65535, allowed less than 1024"),
+        large("large_cr.yuv", "none", "Cr row 8 column 3 is 4096, allowed less than 1024"),
+        large("large_all.yuv", "none", "picture 0, Cb row 3 column 0 is 1026"),
+        large("small.yuv", "large_cr.yuv", "large_cr.yuv: refused 11 (sample): picture 0, Cr row 8 column 3"),
+        large("large_cr.yuv", "large_y.yuv", "large_y.yuv: refused 11 (sample): picture 0, Y row 0 column 0"),
+        large("large_all.yuv", "large_y.yuv", "large_all.yuv: refused 11 (sample): picture 0, Cb row 3"),
+        large("large_later.yuv", "none", "picture 1, Y row 35 column 15 is 2048"),
+        Group("eight_bit.block", "small.yuv", "none", OUT, "Y row 0 column 7 is 259, allowed less than 256"),
+        large("small.yuv", "none", None),                       # and nothing is left in the way
+    ]
+
+
+def unwritten_groups():
+    return [
+        Group("small.block", "small.yuv", "none", "missing/out.yuv", "cannot be written: no such file or folder"),
+        Group("small.block", "small.yuv", "none", "block/out.yuv", "cannot be written: a folder of its path is a file"),
+        Group("small.block", "small.yuv", "none", "taken.yuv", "taken.yuv.part is in the way"),
+        Group("small.block", "small.yuv", "none", "folder", "folder: cannot be written: it is a folder"),
+        Group("small.block", "small.yuv", "none", ".", ".: cannot be written: error 16"),
+        Group("small.block", "small.yuv", "none", "", ": cannot be written: no such file or folder"),
+    ]
+
+
+def all_cases(sources):
+    """({name: bytes} of the files beside the sources, the groups)."""
+    good = sources["block"]
+    refused = refused_blocks(good)
+    for name, (data, number) in refused.items():
+        assert block.read(data)[0] == number, name
+    files = {**good_blocks(good), **{name: data for name, (data, _) in refused.items()}, **picture_files()}
+    groups = [Group(*SOURCES, "hdr.yuv", None)] + written_groups()
+    groups += [Group(name, "base.yuv", "none", OUT, "refused %d (" % number)
+               for name, (_, number) in refused.items()]
+    groups += [Group("empty", "base.yuv", "none", OUT, "empty: refused 1 (short): 0 bytes")]
+    groups += unread_groups() + length_groups() + sample_groups() + unwritten_groups()
+    return files, groups
+
+
+def word_list(groups):
+    """The gate's word list."""
+    return ["--standby"] + [word for group in groups for word in group[:4]] + [LEFT_OVER]
+
+
+def answers(lines):
+    """The lines of each group, up to its last one."""
+    found = [[]]
+    for line in lines:
+        found[-1].append(line)
+        if line in ("written", "not written"):
+            found.append([])
+    assert found.pop() == []
+    return found
+
+
+def checked(groups, lines):
+    """Stops where a group does not show what it was made for; the last answer is about the left-over word."""
+    found = answers(lines)
+    assert len(found) == len(groups) + 1
+    assert found.pop() == ["use: compose_file [--standby] BLOCK BASE ENHANCEMENT OUTPUT ...", "not written"]
+    for group, answer in zip(groups, found):
+        if group.shows is None:
+            assert answer[-1] == "written", (group, answer)
+        else:
+            assert answer[-1] == "not written" and group.shows in answer[-2], (group, answer)
+
+
+def outputs(groups):
+    """The files that are written."""
+    return {group.output for group in groups if group.shows is None}

@@ -1,0 +1,84 @@
+"""Composes large pictures, as picture.py does and in far less time.
+
+    python3 large.py BLOCK BASE ENHANCEMENT OUTPUT        (ENHANCEMENT may be none)
+
+A component's samples have few values: what each base code is mapped to, what each
+enhancement code adds and what a sum of both is cut to is worked out once, by composer's
+own functions, and then looked up.  4096 x 2304 with an enhancement picture takes some
+seconds.  It says nothing: files that compose_file refuses stop it.  selftest.py holds it
+equal to picture.py.
+"""
+
+import array
+import sys
+
+import block
+import composer
+import limits
+import picture
+
+
+def samples(data):
+    """A run of samples; two bytes each, the low byte first."""
+    run = array.array("H", data)
+    assert run.itemsize == 2
+    if sys.byteorder == "big":
+        run.byteswap()
+    return run
+
+
+def tables(plan, cmp, enhanced):
+    """What each base code is mapped to, what each enhancement code adds, what each sum of the two comes to.
+
+    The residuals are counted from the smallest, so that no sum is negative: it is an index.
+    """
+    pivot_value = composer.assign_pivot_values(plan.pred_pivot_value, plan.num_pivots_minus2)
+    mapped = [composer.map_sample(plan, pivot_value, cmp, s) for s in limits.samples(plan.BL_bit_depth)]
+    added = [0]
+    if enhanced:
+        added = [composer.residual(plan, cmp, e) for e in limits.samples(plan.EL_bit_depth)]
+    least = min(added)
+    sums = range(least, max(mapped) + max(added) + 1)
+    cut = [composer.reconstruct(h, 0, 0, plan.hdr_bit_depth) for h in sums]
+    return mapped, [r - least for r in added], cut
+
+
+def compose(plan, base, enhancement):
+    """One picture; `enhancement` is empty where none is used."""
+    output = array.array("H")
+    luma = plan.width * plan.height
+    for cmp, (begin, end) in enumerate(((0, luma), (luma, luma * 5 // 4), (luma * 5 // 4, luma * 3 // 2))):
+        mapped, added, cut = tables(plan, cmp, len(enhancement) > 0)
+        if enhancement:
+            output.extend([cut[mapped[s] + added[e]] for s, e in zip(base[begin:end], enhancement[begin:end])])
+        else:
+            output.extend([cut[mapped[s]] for s in base[begin:end]])
+    if sys.byteorder == "big":
+        output.byteswap()
+    return output.tobytes()
+
+
+def compose_file(block_name, base_name, enhancement_name):
+    """The bytes of all pictures."""
+    number, plan = block.read(picture.contents(block_name))
+    assert number == 0
+    base, enhancement = samples(picture.contents(base_name)), array.array("H")
+    size = plan.picture_samples
+    assert len(base) > 0 and len(base) % size == 0
+    if plan.disable_residual_flag == 0 and enhancement_name != picture.NONE:
+        enhancement = samples(picture.contents(enhancement_name))
+        assert len(enhancement) == len(base)
+    return b"".join(compose(plan, base[at:at + size], enhancement[at:at + size])
+                    for at in range(0, len(base), size))
+
+
+def main():
+    if len(sys.argv) != 5:
+        sys.exit("usage: large.py BLOCK BASE ENHANCEMENT OUTPUT")
+    data = compose_file(*sys.argv[1:4])
+    with open(sys.argv[4], "wb") as file:
+        file.write(data)
+
+
+if __name__ == "__main__":
+    main()
