@@ -1,5 +1,6 @@
 # What `run` and `against` share, sourced at the repository's root: compilers, limits, and how the parts are built.
 if ! command -v gcc >/dev/null || ! command -v clang >/dev/null; then
+  echo "gcc or clang is missing, and both are installed now, by apt-get" >&2
   { apt-get update -q && apt-get install -y -q gcc libc6-dev clang; } ||
     echo "bench: without gcc and clang the table lacks a compiler"
 fi

@@ -78,6 +78,7 @@ leaves-settled =
       cut-numbers = λ κs a r r' s s' p q. p ∙ sym q;
       is-usable = λ κs a r r' s s' p q. p ∙ sym q;
       header-fits = λ κs a r r' s s' p q. p ∙ sym q;
+      chroma-size = λ κs a r r' s s' p q. p .0 ∙ sym (q .0);
       picture-size = λ κs a r r' s s' p q. p ∙ sym q;
       refusal-of = λ κs a r r' s s' p q. p ∙ sym q;
       quantizes = λ κs a r r' s s' p q. p ∙ sym q;

@@ -1,18 +1,14 @@
 // Composes pictures from files: compose_file [--standby] BLOCK BASE ENHANCEMENT OUTPUT ..., where ENHANCEMENT may be `none`.
 // Pictures are raw planar 4:2:0, two bytes a sample, the low byte first. What is said goes to standard output, and the last line for
 // each four words is `written` or `not written`; before `not written` stands why. The command ./compose starts it.
-mod bands; // bands of a picture, and their places in a file
-mod group; // four words, and the files that they name
 mod night; // the jobs of one band
 mod pictures; // all bands of all pictures
-mod sample; // which sample is too large
-mod schedule; // which row pairs a band's jobs name
 
 use files::BLOCK_ROOM;
 use files::is_readable;
 use files::is_word;
 use files::load_end;
-use group::Names;
+use picture_files::group::Names;
 use pictures::compose_plan;
 use saying::say;
 use saying::say_refusal;

@@ -1,17 +1,17 @@
 // The jobs of one band, which is opened as a picture of its own height. With --standby each of them is said.
-use crate::bands::Band;
-use crate::group::Names;
-use crate::sample::say_sample;
-use crate::schedule::Named;
-use crate::schedule::job_at;
-use crate::schedule::jobs_of;
-use crate::schedule::standby_at;
 use jobs::Answer;
 use jobs::Opened;
 use jobs::compose_job;
 use jobs::is_complete;
 use jobs::number;
 use jobs::open_picture;
+use picture_files::bands::Band;
+use picture_files::group::Names;
+use picture_files::say_sample;
+use picture_files::schedule::Named;
+use picture_files::schedule::job_at;
+use picture_files::schedule::jobs_of;
+use picture_files::schedule::standby_at;
 use plan::Plan;
 use saying::say;
 use saying::say_number;
@@ -102,7 +102,7 @@ fn send(
     );
     let refusal = number(answer);
     if refusal != 0 {
-        say_sample(t, plan.header, refusal, j, base, enhancement);
+        say_sample(t.names, t.band, plan.header, refusal, j, base, enhancement);
         return REFUSED;
     }
     if t.standby {

@@ -14,7 +14,8 @@ fn main() {
     compose_job(plan, 7, 7, 0, 1, &base, &[], &mut output, &mut marks);
     compose_job(plan, 7, 7, 0, 1, &base, &[], &mut output, &mut marks); // sent again: still one row pair is left
     let last = compose_job(plan, 7, 7, 1, 1, &base, &[], &mut output, &mut marks);
-    if is_complete(last) {
+    let done = is_complete(last); // no row pair waits any more
+    if done {
         io::write_all(1, b"complete\n");
     }
 }

@@ -18,11 +18,11 @@ pairs-of-requires c κs = search needs
 loop-holds : tie.Need-loop-holds Inv-loop μ-loop
 loop-holds c = (refl, (refl, (refl, refl)))
 
-sub-band-of : tie.Need-sub-band-of Inv-loop μ-loop
-sub-band-of c = search needs
+sub-next-band : tie.Need-sub-next-band Inv-loop μ-loop
+sub-next-band c = search needs
 
-band-of-requires : tie.Need-band-of-requires Inv-loop μ-loop
-band-of-requires c κs = search needs
+next-band-requires : tie.Need-next-band-requires Inv-loop μ-loop
+next-band-requires c κs = search needs
 
 of-height-requires : tie.Need-of-height-requires Inv-loop μ-loop
 of-height-requires c κs = search needs
@@ -71,8 +71,8 @@ compose-picture-spec =
     μ-loop
     pairs-of-requires
     loop-holds
-    sub-band-of
-    band-of-requires
+    sub-next-band
+    next-band-requires
     of-height-requires
     slice-aggregate-compose-band
     slice-aggregate-compose-band-2

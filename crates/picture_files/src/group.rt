@@ -14,11 +14,11 @@ use saying::say_unread;
 ghost use Prim.Native.Nat.{_<_};
 
 // The arguments' numbers.
-pub(crate) struct Names {
-    pub(crate) block: usize,
-    pub(crate) base: usize,
-    pub(crate) enhancement: usize,
-    pub(crate) output: usize,
+pub struct Names {
+    pub block: usize,
+    pub base: usize,
+    pub enhancement: usize,
+    pub output: usize,
 }
 
 fn say_run(i: usize, found: usize, allowed: usize, for_what: &[u8]) {
@@ -43,7 +43,7 @@ fn exactly(length: usize, size: usize) -> usize {
 }
 
 // How many pictures of so many bytes the file holds; 0, and says why, where it cannot be read or holds other pictures.
-pub(crate) fn pictures_in(i: usize, size: usize) -> usize {
+pub fn pictures_in(i: usize, size: usize) -> usize {
     if !is_readable(i) {
         say_unread(i);
         return 0;
@@ -57,7 +57,7 @@ pub(crate) fn pictures_in(i: usize, size: usize) -> usize {
 }
 
 // Whether the file can be read and is as long as the base; says why where not.
-pub(crate) fn fits(i: usize, length: usize) -> bool {
+pub fn fits(i: usize, length: usize) -> bool {
     if !is_readable(i) {
         say_unread(i);
         return false;
@@ -71,20 +71,20 @@ pub(crate) fn fits(i: usize, length: usize) -> bool {
 }
 
 // Whether an enhancement is used: with disable_residual_flag at 1 it is ignored, whatever is named.
-pub(crate) fn is_enhanced(i: usize, disabled: u8) -> bool {
+pub fn is_enhanced(i: usize, disabled: u8) -> bool {
     if disabled != 0 {
         return false;
     }
     !is_word(i, b"none")
 }
 
-pub(crate) fn wide(x: u8) -> usize
+pub fn wide(x: u8) -> usize
     ensures { λ r. ⌜ r < 256 ⌝ }
 {
     x as usize
 }
 
-pub(crate) fn say_pictures(pictures: usize) {
+pub fn say_pictures(pictures: usize) {
     say_number(pictures);
     if pictures == 1 {
         say(b" picture");
@@ -94,7 +94,7 @@ pub(crate) fn say_pictures(pictures: usize) {
 }
 
 // What is composed.
-pub(crate) fn say_task(h: Header, pictures: usize, enhanced: bool) {
+pub fn say_task(h: Header, pictures: usize, enhanced: bool) {
     say_pictures(pictures);
     say(b" of ");
     say_number(chroma_size(2, h.columns));
@@ -114,7 +114,7 @@ pub(crate) fn say_task(h: Header, pictures: usize, enhanced: bool) {
 }
 
 // Why the output cannot be written, by the error of the call that failed.
-pub(crate) fn say_unwritten(i: usize, error: i32) {
+pub fn say_unwritten(i: usize, error: i32) {
     say_argument(i);
     say(b": cannot be written: ");
     if error == libc::EEXIST {
@@ -129,7 +129,7 @@ pub(crate) fn say_unwritten(i: usize, error: i32) {
 }
 
 // A file that ended while it was read.
-pub(crate) fn say_ended(i: usize) {
+pub fn say_ended(i: usize) {
     say_argument(i);
     say(b": cannot be read: it ended early\n");
 }

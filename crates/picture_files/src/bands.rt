@@ -7,16 +7,16 @@ use std::num::wrapping_add_usize;
 ghost use Prim.Native.Nat.{_<_, _≤_};
 
 // The samples of a band at most: eight row pairs of the widest picture.
-pub(crate) const BAND: usize = 98304;
+pub const BAND: usize = 98304;
 
 // Row pairs of a picture, whose first byte in the file is `start`.
-pub(crate) struct Band {
-    pub(crate) picture: usize,
-    pub(crate) start: usize,
-    pub(crate) columns: u16,
-    pub(crate) pairs: u16,
-    pub(crate) first: u16,
-    pub(crate) count: u16,
+pub struct Band {
+    pub picture: usize,
+    pub start: usize,
+    pub columns: u16,
+    pub pairs: u16,
+    pub first: u16,
+    pub count: u16,
 }
 
 // How many row pairs of so many columns fit in a band; at least one.
@@ -30,10 +30,9 @@ fn fitting(columns: u16) -> u16
     if most == 0 { 1 } else { most }
 }
 
-// How many row pairs the next band has, where so many are left.
-pub(crate) fn band_of(columns: u16, left: u16) -> u16
-    requires { ⌜ 0 < left ⌝ }
-    ensures { λ r. ⌜ (0 < r) × (r ≤ left) ⌝ }
+// How many row pairs the next band has, of those that are left.
+pub fn band_of(columns: u16, left: u16) -> u16
+    ensures { λ r. ⌜ (0 < left → 0 < r) × (r ≤ left) ⌝ }
 {
     let most = fitting(columns);
     if left < most { left } else { most }
@@ -61,7 +60,7 @@ fn store_plane(fd: i32, place: usize, at: usize, n: usize, run: &[u16]) -> bool 
 }
 
 // The band from the file; false where it cannot be read.
-pub(crate) fn load_band(fd: i32, b: Band, run: &mut [u16]) -> bool {
+pub fn load_band(fd: i32, b: Band, run: &mut [u16]) -> bool {
     let plane = chroma_size(b.columns, b.pairs);
     let above = chroma_size(b.columns, b.first);
     let n = chroma_size(b.columns, b.count);
@@ -75,7 +74,7 @@ pub(crate) fn load_band(fd: i32, b: Band, run: &mut [u16]) -> bool {
 }
 
 // The band to the file; false where it cannot be written.
-pub(crate) fn store_band(fd: i32, b: Band, run: &[u16]) -> bool {
+pub fn store_band(fd: i32, b: Band, run: &[u16]) -> bool {
     let plane = chroma_size(b.columns, b.pairs);
     let above = chroma_size(b.columns, b.first);
     let n = chroma_size(b.columns, b.count);

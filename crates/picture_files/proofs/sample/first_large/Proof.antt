@@ -1,8 +1,8 @@
 use borrow.Author.Needs.{needs}
 use Prim.{Unit}
 use Prim.Native.Nat.{_-_}
-use Rattle.compose_file.proofs.sample.first_large.Statement.{statement}
-use Rattle.compose_file.proofs.sample.first_large.Tie as tie
+use Rattle.picture_files.proofs.sample.first_large.Statement.{statement}
+use Rattle.picture_files.proofs.sample.first_large.Tie as tie
 
 abbrev Inv-loop : tie.InvT-loop
 Inv-loop limit run from to i₀ i = Unit {0}

@@ -4,9 +4,9 @@ use std::num::wrapping_add_u16;
 ghost use Prim.Native.Nat.{_≤_};
 
 // Row pairs that a job names, counted from the band's first.
-pub(crate) struct Named {
-    pub(crate) first: u16,
-    pub(crate) count: u16,
+pub struct Named {
+    pub first: u16,
+    pub count: u16,
 }
 
 // How many jobs of eight row pairs n row pairs take.
@@ -49,13 +49,13 @@ fn in_flight(half: u16) -> u16
 }
 
 // The number of the first job after the standby.
-pub(crate) fn standby_at(n: u16) -> u16
+pub fn standby_at(n: u16) -> u16
     ensures { λ r. ⌜ r ≤ 8192 ⌝ }
 {
     batches(n / 2)
 }
 
-pub(crate) fn jobs_of(standby: bool, n: u16) -> u16 {
+pub fn jobs_of(standby: bool, n: u16) -> u16 {
     if !standby {
         return 1;
     }
@@ -64,7 +64,7 @@ pub(crate) fn jobs_of(standby: bool, n: u16) -> u16 {
 }
 
 // Job k of a band of n row pairs.
-pub(crate) fn job_at(standby: bool, n: u16, k: u16) -> Named {
+pub fn job_at(standby: bool, n: u16, k: u16) -> Named {
     if !standby {
         return Named { first: 0, count: n };
     }

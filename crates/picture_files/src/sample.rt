@@ -1,6 +1,6 @@
 // Which sample of a refused job is too large.
 use crate::bands::Band;
-use crate::night::Task;
+use crate::group::Names;
 use crate::schedule::Named;
 use picture::chroma_size;
 use plan::Header;
@@ -119,8 +119,9 @@ fn say_largest(i: usize, b: Band, j: Named, limit: u16, run: &[u16]) -> bool {
 }
 
 // Why a job is refused. No number but 11 can come of files whose lengths were tested and jobs that name the band's own row pairs.
-pub(crate) fn say_sample(
-    t: Task,
+pub fn say_sample(
+    names: Names,
+    b: Band,
     h: Header,
     number: u8,
     j: Named,
@@ -128,13 +129,12 @@ pub(crate) fn say_sample(
     enhancement: &[u16],
 ) {
     let limit = if h.bl == 0 { 256 } else { 1024 };
-    let names = t.names;
     if number != 11 {
         say_refused(names.base, number);
         say_advice(number);
         return;
     }
-    if !say_largest(names.base, t.band, j, limit, base) {
-        say_largest(names.enhancement, t.band, j, limit, enhancement);
+    if !say_largest(names.base, b, j, limit, base) {
+        say_largest(names.enhancement, b, j, limit, enhancement);
     }
 }
