@@ -31,12 +31,13 @@ stands_on() {
     END { visit(name) }' "$repository/crates.txt"
 }
 
-# How long the crates take that are read from standard input: docs/TIMES.md has the seconds of one processor.
+# How long the crates take that are read from standard input: docs/TIMES.md has the seconds of one processor. Two take
+# three quarters of their sum, as crates wait for those below them.
 about() {
   awk '
     NR == FNR { crate[$1] = 1; next }
     split($0, column, "|") > 3 { name = column[2]; gsub(/[` ]/, "", name); if (name in crate) sum += column[3] }
-    END { s = int(sum / 2) + 1; if (s < 100) print s " seconds"; else print int((s + 59) / 60) " minutes" }
+    END { s = int(sum * 3 / 4) + 1; if (s < 100) print s " seconds"; else print int((s + 30) / 60) " minutes" }
   ' - "$repository/docs/TIMES.md"
 }
 

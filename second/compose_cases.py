@@ -98,14 +98,16 @@ def picture_files():
     size = 6 * CHROMA
     small = [37 * i % 1024 for i in range(size)]
     other = [(51 * i + 400) % 1024 for i in range(size)]
-    row = [x // 4 for x in range(4096)]
+    # every row another one: a band that is read or written at another's place shows
+    wide = [(x // 4 + 40 * row) % 1024 for row in range(22) for x in range(4096)]
+    wide += [(x // 2 + 90 * row) % 1024 for row in range(22) for x in range(2048)]
     return {
         "small.yuv": raw(small),
         "small_enhancement.yuv": raw(other),
         "eight_bit.yuv": raw([s // 4 for s in small]),
         "in_place.yuv": raw(other),
         "two.yuv": raw(small + other),
-        "wide.yuv": raw(row * 22 + row[::2] * 22),
+        "wide.yuv": raw(wide),
         "tiny.yuv": raw(small[:6]),
         "folder/small.yuv": raw(small),
         "short.yuv": raw(small)[:-1],

@@ -1,6 +1,7 @@
-// Composes pictures from files: compose_file [--standby] BLOCK BASE ENHANCEMENT OUTPUT ..., where ENHANCEMENT may be `none`.
-// Pictures are raw planar 4:2:0, two bytes a sample, the low byte first. What is said goes to standard output, and the last line for
-// each four words is `written` or `not written`; before `not written` stands why. The command ./compose starts it.
+// Composes pictures from files: compose_file [--standby] BLOCK BASE ENHANCEMENT OUTPUT ..., where ENHANCEMENT may be
+// `none`. Pictures are raw planar 4:2:0, two bytes a sample, the low byte first. What is said goes to standard
+// output, and the last line for each four words is `written` or `not written`; before `not written` stands why. The
+// command ./compose starts it.
 mod night; // the jobs of one band
 mod pictures; // all bands of all pictures
 

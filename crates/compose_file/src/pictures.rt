@@ -157,7 +157,8 @@ fn compose_pictures(names: Names, standby: bool, plan: Plan, f: Files) -> bool {
     true
 }
 
-// Composes what the four words name, by the plan that the block gave; false, having said why, where nothing was written.
+// Composes what the four words name, by the plan that the block gave; false, having said why, where nothing was
+// written.
 pub(crate) fn compose_plan(names: Names, standby: bool, plan: Plan) -> bool {
     let f = open_files(names, plan.header);
     if f.pictures == 0 {

@@ -1,1 +1,1 @@
-mod Casts
+pub mod Casts

@@ -12,7 +12,8 @@ fn wide(b: u8) -> u64 {
     b as u64
 }
 
-// The sums after some bytes more. At most 65,536 bytes come at once, so no sum comes near 2^64 before it is taken modulo 65,521.
+// The sums after some bytes more. At most 65,536 bytes come at once, so no sum comes near 2^64 before it is taken
+// modulo 65,521.
 fn after(sums: Sums, bytes: &[u8]) -> Sums {
     let mut a = sums.a;
     let mut b = sums.b;

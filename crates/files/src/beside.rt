@@ -1,4 +1,5 @@
-// A file is written under its name and `.part`, and moved to its name when it is whole: nobody ever finds half of it under its name.
+// A file is written under its name and `.part`, and moved to its name when it is whole: nobody ever finds half of it
+// under its name.
 use crate::adler::adler32;
 use crate::length_of;
 use crate::not_below_zero;
@@ -11,7 +12,8 @@ fn put(bytes: &mut [u8], i: usize, b: u8) {
     }
 }
 
-// Puts `.part` after the first n bytes of a path and gives the new length; 0, which names no file, where there is no room for it.
+// Puts `.part` after the first n bytes of a path and gives the new length; 0, which names no file, where there is no
+// room for it.
 fn with_part(n: usize, path: &mut [u8]) -> usize
     ensures { λ r. ⌜ Counts r (now (path .exit)) ⌝ }
 {
@@ -40,7 +42,8 @@ fn name_beside(i: usize, path: &mut [u8]) -> usize
     with_part(n, path)
 }
 
-// Makes the file beside, and answers a descriptor open for writing; negative where it cannot be made, as where it is there.
+// Makes the file beside, and answers a descriptor open for writing; negative where it cannot be made, as where it is
+// there.
 pub fn create_beside(i: usize) -> i32 {
     let mut path = io::large_buffer();
     let n = name_beside(i, &mut path);
@@ -64,8 +67,8 @@ pub fn sum_beside(i: usize) -> usize {
     sum
 }
 
-// Whether what stands under a name may be replaced: nothing, or a regular file, which alone can be cut at its own length. A device
-// would be gone for good, since moving takes its name away.
+// Whether what stands under a name may be replaced: nothing, or a regular file, which alone can be cut at its own
+// length. A device would be gone for good, since moving takes its name away.
 fn can_replace(path: &[u8]) -> bool {
     let fd = os::open_update(path);
     if fd < 0 {
@@ -82,8 +85,8 @@ fn can_replace(path: &[u8]) -> bool {
     true
 }
 
-// Moves the file beside to the name that argument i is; whether that was done. Where not, errno says why, EINVAL that something
-// stands there that is no file.
+// Moves the file beside to the name that argument i is; whether that was done. Where not, errno says why, EINVAL that
+// something stands there that is no file.
 pub fn move_into_place(i: usize) -> bool {
     let mut from = io::large_buffer();
     let n = name_beside(i, &mut from);

@@ -1,5 +1,5 @@
-// Files that arguments name: their lengths, their last bytes, runs of samples at their places, and a file written beside and
-// moved into place.
+// Files that arguments name: their lengths, their last bytes, runs of samples at their places, and a file written
+// beside and moved into place.
 mod adler; // the check sum of what stands in a file
 mod beside; // a file written under another name until it is whole
 mod samples; // runs of samples at their places
@@ -84,7 +84,8 @@ fn read_end(fd: i32, length: usize, bytes: &mut [u8]) -> usize
     io::read_full(fd, bytes)
 }
 
-// The last bytes of the file that argument i names, as many as there is room for; none where it cannot be read or sought in.
+// The last bytes of the file that argument i names, as many as there is room for; none where it cannot be read or
+// sought in.
 pub fn load_end(i: usize, bytes: &mut [u8]) -> usize
     ensures { λ r. ⌜ Counts r (now (bytes .exit)) ⌝ }
 {

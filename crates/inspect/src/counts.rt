@@ -1,4 +1,5 @@
-// The pivots and pieces in use. Reading has seen to it that num_pivots_minus2 is small enough; for another number there are none.
+// The pivots and pieces in use. Reading has seen to it that num_pivots_minus2 is small enough; for another number
+// there are none.
 use plan::limits::MOST_N;
 use plan::limits::PIVOTS;
 use saying::end_line;

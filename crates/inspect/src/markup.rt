@@ -5,7 +5,8 @@ use saying::say_number;
 
 pub(crate) const MOVE: usize = 0;
 
-// A panel's title: its component, from 1 to 3, and the number of pieces; the last code; the least and the greatest mapped sample.
+// A panel's title: its component, from 1 to 3, and the number of pieces; the last code; the least and the greatest
+// mapped sample.
 pub(crate) const LAST_CODE: usize = 4;
 
 pub(crate) const LEAST: usize = 5;

@@ -1,7 +1,7 @@
 // A picture of the mappings: an SVG, one panel a component, of what every code comes to.
 //
-// A panel is 262,144 by 65,536 units, so that every number in it is whole: a code is 256 units wide, or 1,024 where there are 256
-// codes, and a mapped sample v stands v units above the panel's lower edge.
+// A panel is 262,144 by 65,536 units, so that every number in it is whole: a code is 256 units wide, or 1,024 where
+// there are 256 codes, and a mapped sample v stands v units above the panel's lower edge.
 use crate::counts::pair;
 use crate::counts::pieces_of;
 use crate::counts::say_pivots;

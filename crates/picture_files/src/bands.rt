@@ -1,5 +1,6 @@
-// A picture is composed band by band, each a picture of its own height: a sample depends on its own row pair only. So any picture goes
-// through a small memory, and a band is read from and written to its places in the planes of the file.
+// A picture is composed band by band, each a picture of its own height: a sample depends on its own row pair only. So
+// any picture goes through a small memory, and a band is read from and written to its places in the planes of the
+// file.
 use files::load;
 use files::store;
 use picture::chroma_size;

@@ -1,4 +1,5 @@
-// The open files of one group, and what they hold. What is written goes to a file beside the output, which is then moved into place.
+// The open files of one group, and what they hold. What is written goes to a file beside the output, which is then
+// moved into place.
 use crate::bands::Band;
 use crate::bands::load_band;
 use crate::bands::store_band;
@@ -48,8 +49,8 @@ fn no_files() -> Files {
     }
 }
 
-// Opens the files of pictures with this header, which hold whole pictures, and makes the one beside the output; no pictures, having said why,
-// where that cannot be. An enhancement that is not used is not even opened.
+// Opens the files of pictures with this header, which hold whole pictures, and makes the one beside the output; no
+// pictures, having said why, where that cannot be. An enhancement that is not used is not even opened.
 pub fn open_files(names: Names, h: Header) -> Files {
     let size = picture_bytes(h);
     let pictures = pictures_in(names.base, size);

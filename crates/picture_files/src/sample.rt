@@ -34,8 +34,8 @@ fn sample(run: &[u16], i: usize) -> usize {
     if i < run.len() { wide(run[i]) } else { 0 }
 }
 
-// The samples of a component that a job names: where they begin and end in the band's run, how wide a row is, how many rows of the
-// picture stand before the run's first, and where the component begins in the run.
+// The samples of a component that a job names: where they begin and end in the band's run, how wide a row is, how
+// many rows of the picture stand before the run's first, and where the component begins in the run.
 struct Part {
     from: usize,
     to: usize,
@@ -118,7 +118,8 @@ fn say_largest(i: usize, b: Band, j: Named, limit: u16, run: &[u16]) -> bool {
     say_large(i, b, named_part(b, 2, j), 2, limit, run)
 }
 
-// Why a job is refused. No number but 11 can come of files whose lengths were tested and jobs that name the band's own row pairs.
+// Why a job is refused. No number but 11 can come of files whose lengths were tested and jobs that name the band's
+// own row pairs.
 pub fn say_sample(
     names: Names,
     b: Band,

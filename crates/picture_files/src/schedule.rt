@@ -1,5 +1,5 @@
-// The jobs of a band, in their order: one for all its row pairs, or, with a standby in the middle, eight row pairs a job, those that were in
-// flight at the standby again, and then the rest.
+// The jobs of a band, in their order: one for all its row pairs, or, with a standby in the middle, eight row pairs a
+// job, those that were in flight at the standby again, and then the rest.
 use std::num::wrapping_add_u16;
 ghost use Prim.Native.Nat.{_≤_};
 

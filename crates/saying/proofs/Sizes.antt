@@ -1,6 +1,6 @@
 -- The absolute value of an i64, and of one below 0 that value less one; an i32 as an i64. Assumes nothing.
-use mathlib.Core.Path.{_≡_, refl}
-use mathlib.Core.Bool.{true, false, true≢false}
+use mathlib.Core.Path.{_≡_}
+use mathlib.Core.Bool.{true, false}
 use Prim.Native.Nat.{ℕ, suc, _+_, _-_, _^_, _≤_, _<_}
 use native.Mathlib.Omega.{arith}
 use lib.Dec.{T}
@@ -10,6 +10,7 @@ use mir.Facts.{toZ-ofZ}
 use mir.Syntax.{w32, w64}
 use mir.Val.{SFits, toZ, ofZ}
 use borrow.Author.Tests.{ltb-true, le-ltb}
+use Rattle.files.proofs.Casts.{not-negative}
 
 record Less (z : ℤ) : Type 0 where
   n : ℕ
@@ -36,11 +37,7 @@ module _ (z : ℤ) (f : SFits w64 z) where
 
   -- a z that is not below 0 is its own absolute value, and is cast as it stands
   pub positive : ltZ (toZ w64 (ofZ w64 z)) (pos 0) ≡ false → T (nonNeg (toZ w64 (ofZ w64 z))) × ((natAbs (toZ w64 (ofZ w64 z)) ≡ natAbs z) × (natAbs (toZ w64 (ofZ w64 z)) < 2 ^ 63))
-  positive e = let k = cast z f (rw (toZ-ofZ f) at e) in rw (toZ-ofZ f) (k .0, (refl, k .1))
-    where
-      cast : (z : ℤ) → SFits w64 z → ltZ z (pos 0) ≡ false → T (nonNeg z) × (natAbs z < 2 ^ 63)
-      cast (pos n) f e = (tt, f .sfits)
-      cast (negsuc n) f e = absurd (true≢false e)
+  positive e = let k = not-negative z f e in (k .0, (rw (toZ-ofZ f), k .1))
 
 pub widened : (z : ℤ) → SFits w32 z → SFits w64 (toZ w32 (ofZ w32 z))
 widened z f = rw (toZ-ofZ f) (wider z f)

@@ -40,8 +40,8 @@ pub fn say_error(error: i32) {
     );
 }
 
-// What keeps the first byte of an open file from being read; 0 where nothing does any more. A pipe has no first byte, and is not
-// waited for.
+// What keeps the first byte of an open file from being read; 0 where nothing does any more. A pipe has no first byte,
+// and is not waited for.
 fn error_of(fd: i32) -> i32 {
     let mut one = [0u8; 1];
     if libc::pread(fd, &mut one, 0) < 0 {

@@ -1,5 +1,5 @@
-// Numbers with a fraction, z / 2^d: the integer part, rounded down (toward minus infinity); the fraction, which adds upward, in
-// units of 2^-d; and about what they come to, rounded down to six digits after the point.
+// Numbers with a fraction, z / 2^d: the integer part, rounded down (toward minus infinity); the fraction, which adds
+// upward, in units of 2^-d; and about what they come to, rounded down to six digits after the point.
 use crate::say;
 use crate::size;
 ghost use Prim.Native.Nat.{_^_, _<_, _≤_};
@@ -14,7 +14,8 @@ pub(crate) fn power(k: usize) -> u64
     1u64 << (k as u32)
 }
 
-// Says the sign, and gives what is added to an absolute value before it is divided by `one`: below 0 it has to be rounded up.
+// Says the sign, and gives what is added to an absolute value before it is divided by `one`: below 0 it has to be
+// rounded up.
 fn say_sign(z: i64, one: u64) -> u64
     requires { ⌜ (0 < one) × (one ≤ 2 ^ 32) ⌝ }
     ensures { λ r. ⌜ r < 2 ^ 32 ⌝ }

@@ -1,4 +1,5 @@
-// The line about a block that is refused: the rule, where its failure was met, what was found there and what is allowed.
+// The line about a block that is refused: the rule, where its failure was met, what was found there and what is
+// allowed.
 use crate::field::say_field;
 use crate::header::say_column;
 use crate::parts::bytes_before;
@@ -64,7 +65,8 @@ fn say_found(number: u8, place: usize, field: Name, bytes: &[u8], before: usize)
     }
 }
 
-// A refusal as reading answers it. The bytes are the last ones of the file that argument i names; places are said as the file's.
+// A refusal as reading answers it. The bytes are the last ones of the file that argument i names; places are said as
+// the file's.
 pub fn say_refusal(i: usize, number: u8, place: usize, field: Name, bytes: &[u8]) {
     let before = bytes_before(i, bytes);
     say_refused(i, number);

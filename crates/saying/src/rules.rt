@@ -1,4 +1,5 @@
-// The rules of docs/RULES.md, "Refusals": their names, and what to do about each. A rule's number is its line; line 0 is none's.
+// The rules of docs/RULES.md, "Refusals": their names, and what to do about each. A rule's number is its line; line 0
+// is none's.
 use crate::end_line;
 use crate::say;
 use crate::say_argument;
