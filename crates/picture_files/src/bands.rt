@@ -10,6 +10,9 @@ ghost use Prim.Native.Nat.{_<_, _≤_};
 // The samples of a band at most: eight row pairs of the widest picture.
 pub const BAND: usize = 98304;
 
+// Of these a sixth are Cb's.
+const CHROMA: u16 = (BAND / 6) as u16;
+
 // Row pairs of a picture, whose first byte in the file is `start`.
 pub struct Band {
     pub picture: usize,
@@ -27,7 +30,7 @@ fn fitting(columns: u16) -> u16
     if columns == 0 {
         return 1;
     }
-    let most = 16384 / columns;
+    let most = CHROMA / columns;
     if most == 0 { 1 } else { most }
 }
 
@@ -60,30 +63,39 @@ fn store_plane(fd: i32, place: usize, at: usize, n: usize, run: &[u16]) -> bool 
     store(fd, place, &run[at..at + n])
 }
 
-// The band from the file; false where it cannot be read.
-pub fn load_band(fd: i32, b: Band, run: &mut [u16]) -> bool {
+// The bytes of the file at which the band's parts of the planes begin.
+struct Places {
+    y: usize,
+    cb: usize,
+    cr: usize,
+}
+
+fn places_of(b: Band) -> Places {
     let plane = chroma_size(b.columns, b.pairs);
     let above = chroma_size(b.columns, b.first);
+    Places {
+        y: wrapping_add_usize(b.start, 8 * above),
+        cb: wrapping_add_usize(b.start, 8 * plane + 2 * above),
+        cr: wrapping_add_usize(b.start, 10 * plane + 2 * above),
+    }
+}
+
+// The band from the file; false where it cannot be read.
+pub fn load_band(fd: i32, b: Band, run: &mut [u16]) -> bool {
     let n = chroma_size(b.columns, b.count);
-    let y = wrapping_add_usize(b.start, 8 * above);
-    let cb = wrapping_add_usize(b.start, 8 * plane + 2 * above);
-    let cr = wrapping_add_usize(b.start, 10 * plane + 2 * above);
-    let has_y = load_plane(fd, y, 0, 4 * n, run);
-    let has_cb = load_plane(fd, cb, 4 * n, n, run);
-    let has_cr = load_plane(fd, cr, 5 * n, n, run);
+    let p = places_of(b);
+    let has_y = load_plane(fd, p.y, 0, 4 * n, run);
+    let has_cb = load_plane(fd, p.cb, 4 * n, n, run);
+    let has_cr = load_plane(fd, p.cr, 5 * n, n, run);
     has_y & (has_cb & has_cr)
 }
 
 // The band to the file; false where it cannot be written.
 pub fn store_band(fd: i32, b: Band, run: &[u16]) -> bool {
-    let plane = chroma_size(b.columns, b.pairs);
-    let above = chroma_size(b.columns, b.first);
     let n = chroma_size(b.columns, b.count);
-    let y = wrapping_add_usize(b.start, 8 * above);
-    let cb = wrapping_add_usize(b.start, 8 * plane + 2 * above);
-    let cr = wrapping_add_usize(b.start, 10 * plane + 2 * above);
-    let has_y = store_plane(fd, y, 0, 4 * n, run);
-    let has_cb = store_plane(fd, cb, 4 * n, n, run);
-    let has_cr = store_plane(fd, cr, 5 * n, n, run);
+    let p = places_of(b);
+    let has_y = store_plane(fd, p.y, 0, 4 * n, run);
+    let has_cb = store_plane(fd, p.cb, 4 * n, n, run);
+    let has_cr = store_plane(fd, p.cr, 5 * n, n, run);
     has_y & (has_cb & has_cr)
 }

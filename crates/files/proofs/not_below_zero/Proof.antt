@@ -9,11 +9,7 @@ cast-result c =
     let k = not-negative (c .before .args .n) (c .before .fits .n) (c .if1 .left) in
     (k .0, record { fits = omega (arith, k .1) })
 
-returns : tie.Need-returns
-returns c = search needs
-
-returns-2 : tie.Need-returns-2
-returns-2 c = search needs
-
 pub not-below-zero-spec : {M : Type 1} → statement M
-not-below-zero-spec = tie.close (tie.spec cast-result returns returns-2)
+not-below-zero-spec = tie.close (tie.spec
+    cast-result
+    (λ c. search needs) (λ c. search needs))

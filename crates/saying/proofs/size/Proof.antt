@@ -34,4 +34,10 @@ returns-2 c =
 
 pub size-spec : {M : Type 1} → statement M
 size-spec =
-    tie.close (tie.spec sub-less-one cast-result add-result returns cast-result-2 returns-2)
+    tie.close (tie.spec
+    sub-less-one
+    cast-result
+    add-result
+    returns
+    cast-result-2
+    returns-2)

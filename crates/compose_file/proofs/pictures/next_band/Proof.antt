@@ -8,4 +8,6 @@ returns c =
     (c .band-of .ensures .0 (st .pre), c .band-of .ensures .1)
 
 pub next-band-spec : {M : Type 1} → statement M
-next-band-spec = tie.close (tie.spec (λ c κs. search needs) returns)
+next-band-spec = tie.close (tie.spec
+    (λ c κs. search needs)
+    returns)

@@ -6,31 +6,13 @@ use borrow.Author.Needs.{needs}
 use Rattle.files.proofs.samples.read_some.Statement.{statement}
 use Rattle.files.proofs.samples.read_some.Tie as tie
 
-returns : tie.Need-returns
-returns c = search needs
-
-slice-relend-prefix-read-full : tie.Need-slice-relend-prefix-read-full
-slice-relend-prefix-read-full c = search needs
-
 slice-aggregate-read-full : tie.Need-slice-aggregate-read-full
 slice-aggregate-read-full c = sym (length-take-le _ _ (omega arith))
-
-read-full-requires : tie.Need-read-full-requires
-read-full-requires c κs = search needs
-
-same-length : tie.Need-same-length
-same-length c = search needs
-
-returns-2 : tie.Need-returns-2
-returns-2 c = search needs
 
 pub read-some-spec : {M : Type 1} → statement M
 read-some-spec =
     tie.close
     (tie.spec
-    returns
-    slice-relend-prefix-read-full
+    (λ c. search needs) (λ c. search needs)
     slice-aggregate-read-full
-    read-full-requires
-    same-length
-    returns-2)
+    (λ c κs. search needs) (λ c. search needs) (λ c. search needs))
