@@ -1,4 +1,6 @@
 /* A row job as C sees it: the plan's layout, the proved job, and the C jobs that it is timed against. */
+#ifndef JOB_H
+#define JOB_H
 #include <stddef.h>
 #include <stdint.h>
 
@@ -47,3 +49,4 @@ JOB(clause_gcc);
 JOB(clause_clang);
 JOB(tables_gcc);
 JOB(tables_clang);
+#endif

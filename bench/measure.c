@@ -32,7 +32,7 @@ void compare(Way *const ways[], int n, const Plan *plan, size_t step)
     }
 }
 
-static double now(void)
+double now(void)
 {
     struct timespec t;
     clock_gettime(CLOCK_MONOTONIC, &t);

@@ -12,5 +12,8 @@ void compare(Way *const ways[], int n, const Plan *plan, size_t step);
 /* the nanoseconds a sample of each way in each of the interleaved runs */
 void measure(Way *const ways[], int n, int runs, const Plan *plan, size_t step, double times[n][runs]);
 
+/* nanoseconds of a clock that only goes forward */
+double now(void);
+
 /* sorts the numbers */
 double median(double numbers[], int n);

@@ -1,5 +1,6 @@
-/* What `run` runs: the proved code against clause-by-clause C, C with tables, and memcpy. Prints tables in Markdown:
-   nanoseconds a sample and ratios. Exits 1 where outputs differ. */
+/* What `run` runs: the proved code against clause-by-clause C, C with tables, and memcpy, and the proved writer against
+   C. Prints tables in Markdown: nanoseconds a sample or a block, and ratios. Exits 1 where outputs differ. */
+#include "blocks.h"
 #include "rows.h"
 #include <stdio.h>
 #include <string.h>
@@ -82,5 +83,6 @@ int main(void)
            RUNS);
     each_row(1920, 1080, against_c);
     by_picture();
+    block_rows();
     return 0;
 }

@@ -1,11 +1,13 @@
-"""Answers the four vector streams; README.md gives their formats.
+"""Answers the five vector streams; README.md gives their formats.
 
     python3 answers.py sample_vectors < stdin > stdout
     python3 answers.py block_vectors < stdin > stdout
     python3 answers.py night_vectors < stdin > stdout
     python3 answers.py plan_vectors < stdin > stdout
+    python3 answers.py write_vectors < stdin > stdout
 """
 
+import functools
 import struct
 import sys
 
@@ -13,9 +15,12 @@ import block
 import jobs
 import nights
 import places
+import plan_text
+import writer
 from composer import Plan
 
 NO_RUN = 255        # the place of an enhancement run that is not present
+GUARD = 16          # bytes on each side of the slice that is lent to the writer
 
 
 class Stream:
@@ -125,11 +130,66 @@ def plan_answers(data):
 
 
 def _plan_answer(stream, plan):
+    return "7" if jobs.breaks_rule_7(_changed_plan(stream, plan)) else "0"
+
+
+def _changed_plan(stream, plan):
     edits = []
     for _ in range(stream.u8()):
         place = places.PLACES[stream.u16()]
         edits.append((place, stream.s64() if places.is_signed(place) else stream.u64()))
-    return "7" if jobs.breaks_rule_7(places.changed(plan, edits)) else "0"
+    return places.changed(plan, edits)
+
+
+def write_answers(data):
+    """One line a case: what is written, what is written of what is then read, and the block as text."""
+    stream = Stream(data)
+    lines = []
+    while stream.more():
+        number, plan = block.read(stream.bytes(stream.u16()))
+        plan = plan if number == 0 else Plan()
+        lines += [write_line(_changed_plan(stream, plan), stream.u16(), stream.u16(), stream.u8())
+                  for _ in range(stream.u16())]
+    return lines
+
+
+def write_line(plan, version, size, first, by=writer):
+    """`by` is the writer: its two calls, write_into and length."""
+    said, written = _written(plan, version, size, first, by)
+    if not written:
+        return said
+    number, again = block.read(written)
+    if number != 0:
+        return "%s %d %s" % (said, number, _written(Plan(), version, size, first, by)[0])
+    return "%s 0 %s %s" % (said, _written(again, version, size, first, by)[0], _as_text(written))
+
+
+@functools.lru_cache(maxsize=None)
+def _as_text(data):
+    """Of a block as text: length, check sum, whether the block and then the text come back the same."""
+    text, made, again = plan_text.circle(data)
+    return "%d %d %s %s" % (len(text), fnv_1a(text), _same(made, data), _same(again, text))
+
+
+def _same(found, expected):
+    return "same" if found == expected else "other"
+
+
+def _written(plan, version, size, first, by):
+    """(the answer, the length call's and the check sum of slice and guards, the block that is answered)."""
+    room = bytes((first + at) % 256 for at in range(size + 2 * GUARD))
+    number, length, after = by.write_into(plan, version, room[GUARD:-GUARD])
+    said = "refused %d" % number if number != 0 else "written %d" % length
+    return ("%s %d %d" % (said, by.length(plan, version), fnv_1a(room[:GUARD] + after + room[-GUARD:])),
+            after[:length])
+
+
+def fnv_1a(data):
+    """The check sum of Fowler, Noll and Vo, in 32 bits: no change of one byte keeps it."""
+    total = 2166136261
+    for byte in data:
+        total = (total ^ byte) * 16777619 % (1 << 32)
+    return total
 
 
 def night_answers(data):
@@ -170,7 +230,8 @@ def _done(left):
 
 def main():
     answers = {"sample_vectors": sample_answers, "block_vectors": block_answers,
-               "night_vectors": night_answers, "plan_vectors": plan_answers}
+               "night_vectors": night_answers, "plan_vectors": plan_answers,
+               "write_vectors": write_answers}
     if len(sys.argv) != 2 or sys.argv[1] not in answers:
         sys.exit("usage: answers.py %s < stdin" % "|".join(answers))
     for line in answers[sys.argv[1]](sys.stdin.buffer.read()):

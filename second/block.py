@@ -141,18 +141,18 @@ def _read_section(plan, cmp, section):
     fields.end()
 
 
-def write(plan):
-    """The block of a plan in range; used to make vectors, so nothing is tested."""
+def write(plan, version=limits.VERSIONS[0]):
+    """The block of a plan in range, which writer.py tests; cases are made from it too."""
     sections = [section_bytes(plan, cmp) for cmp in range(3)]
-    return assemble(header_bytes(plan), sections)
+    return assemble(header_bytes(plan), sections, version)
 
 
-def assemble(header, sections):
+def assemble(header, sections, version=limits.VERSIONS[0]):
     """Header, sections, and the trailer that fits them."""
     D2 = len(sections[2])
     D1 = D2 + len(sections[1])
     D0 = D1 + len(sections[0])
-    trailer = struct.pack(">6H", D0 + len(header), D0, D1, D2, limits.VERSIONS[0], 0)
+    trailer = struct.pack(">6H", D0 + len(header), D0, D1, D2, version, 0)
     return header + b"".join(sections) + trailer
 
 

@@ -642,6 +642,14 @@ def damage_cases(choices, generator, number):
     return [damaged_case(generator.choice(choices), generator) for _ in range(number)]
 
 
+def data_of(bases, case):
+    """The bytes that a case has read."""
+    data = bytearray(bases[case.base])
+    for offset, byte in case.edits:
+        data[offset] = byte
+    return bytes(data[case.start:case.stop])
+
+
 def all_cases():
     """(the base blocks' bytes, the cases)."""
     bases = Bases()

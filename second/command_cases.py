@@ -1,6 +1,7 @@
 """The command lines that commands.py tries: for each its files, and what is to come of it.
 
-What is said of files is built by words.py and inspect_block.py, what compose and inspect say of themselves stands here.
+What is said of files is built by words.py, inspect_block.py and author.py; what the commands say of themselves stands
+here.
 """
 
 import os
@@ -8,10 +9,13 @@ import signal
 import struct
 import zlib
 
+import author
+import author_cases
 import block
 import compose_cases
 import inspect_block
 import picture
+import plan_text
 import words
 
 DATA = os.path.join(os.path.dirname(os.path.abspath(__file__)), "..", "crates", "compose_file", "data")
@@ -24,6 +28,7 @@ ROOM = {"block": BLOCK, "base.yuv": BASE, "enhancement.yuv": ENHANCEMENT}       
 USE_COMPOSE = "use: compose [--standby] BLOCK BASE ENHANCEMENT OUTPUT   (compose --help says more)"
 USE_INSPECT = ("use: inspect BLOCK... | inspect --plot OUT.svg BLOCK | inspect --rules"
                "   (inspect --help says more)")
+USE_AUTHOR = "use: author TEXT BLOCK | author --text BLOCK   (author --help says more)"
 PIPE = "%s: cannot be read: it is a pipe, and a file is needed"
 LONG = "n" * 5000
 
@@ -32,16 +37,17 @@ class Case:
     """A command line, and what is to come of it."""
 
     def __init__(self, command, status=0, line=None, add=None, left=None, said=None, setup=None, before=(),
-                 programs=None, nobody=False, kill=None):
+                 programs=None, nobody=False, kill=None, exact=False):
         self.command = command
         self.status = status
         self.lines = [line] if isinstance(line, str) else line or []
         self.add = add or {}                # files beside those of ROOM: {name: bytes}
         self.left = left or {}              # files that are there afterwards, new or with other bytes
         self.said = said                    # the end of standard output, where it is held to something
+        self.exact = exact                  # whether there is nothing else on it
         self.setup = setup                  # makes what is no file, given the folder
         self.before = list(before)          # words before the command
-        self.programs = programs            # a program's script in the place of compose_file
+        self.programs = programs            # a program's script in the place of the programs
         self.nobody = nobody                # not as root, who may read and write all
         self.kill = kill                    # a signal, once the program has made the file `started`
 
@@ -68,6 +74,10 @@ def compose(*names, **wanted):
 
 def inspect(*names, **wanted):
     return Case(["inspect", *names], **wanted)
+
+
+def write_text(*names, **wanted):
+    return Case(["author", *names], **wanted)
 
 
 def good(names, output, data, count=1, **wanted):
@@ -326,6 +336,105 @@ def plot_cases():
     ]
 
 
+# author ---------------------------------------------------------------------
+
+TEXT = author_cases.joined(author_cases.LINES)
+TEXT_BLOCK = plan_text.read_text(TEXT).data
+TEXTS = {"text": TEXT}
+
+
+def authored(names, output, **wanted):
+    """author writes the block of the text `text` and says its Adler-32 last."""
+    said = "%s: %d bytes, Adler-32 %d\n" % (names[-1], len(TEXT_BLOCK), zlib.adler32(TEXT_BLOCK))
+    return write_text(*names, left={output: TEXT_BLOCK}, said=said, exact=True, **{"add": TEXTS, **wanted})
+
+
+def author_use_cases():
+    wrong = [[], ["text"], ["text", "out", "more"], ["--text"], ["--text", "block", "out"], ["--"], ["--", "text"],
+             ["-t", "block"], ["--show", "block"], ["--text", "--"]]
+    return [write_text(*given, status=2, line=USE_AUTHOR) for given in wrong] + [
+        write_text("--help", said="./author plan.txt block\n")]
+
+
+def author_good_cases():
+    shown = "".join(line + "\n" for line in plan_text.plan_lines(block.read(BLOCK)[1]))
+    return [
+        authored(["text", "out"], "out"),
+        authored(["--", "text", "out"], "out"),
+        authored(["text", "old"], "old", add={**TEXTS, "old": b"an older block"}),
+        authored(["text", "text"], "text"),
+        authored(["a text", "a block"], "a block", add={"a text": TEXT}),
+        authored(["--", "--text", "--text"], "--text", add={"--text": TEXT}),
+        authored(["text", "line\nend"], "line\nend"),
+        write_text("text", "link", add=TEXTS, left={"new": TEXT_BLOCK}, setup=make(("symlink", "new", "link"))),
+        authored(["/dev/stdin", "out"], "out", before=["sh", "-c", 'exec "$@" <text', "sh"]),
+        write_text("--text", "block", said=shown, exact=True),
+        write_text("--text", "--", "--text", said=shown, exact=True, add={"--text": BLOCK}),
+        write_text("--text", "behind", said=shown, exact=True, add={"behind": FILES["behind_zeros.block"]}),
+    ]
+
+
+def author_bad_cases():
+    """Refused texts and blocks, and files that cannot be read or written; no file is left behind."""
+    def unmade(text_name, output, line, **wanted):
+        return write_text(text_name, output, status=1, line=line, **{"add": TEXTS, **wanted})
+
+    def unwritten(output, why, **wanted):
+        return unmade("text", output, "%s: cannot be written: %s" % (output, why), **wanted)
+
+    def unshown(name, line, **wanted):
+        return write_text("--text", name, status=1, line=line, said="", exact=True, **wanted)
+
+    chosen = ("line_missing", "two_spaces", "minus_zero", "digits", "component", "empty", "too_long", "profile", "mmr",
+              "version")
+    bad = {name: author_cases.bad_texts()[name][0] for name in chosen}
+    taken = words.unwritten("out", 17, "author").split(": cannot be written: ")[1]
+    return [unmade(name + ".txt", "out", refusal_of(name + ".txt", text), add={name + ".txt": text})
+            for name, text in bad.items()] + [
+        unmade("bad.txt", "old", refusal_of("bad.txt", b"version\n"), add={"bad.txt": b"version\n", "old": b"old"}),
+        unmade("missing", "out", "missing: cannot be read: no such file or folder"),
+        unmade(".", "out", ".: cannot be read: it is a folder"),
+        unmade("pipe", "out", PIPE % "pipe", setup=make(("mkfifo", "pipe"))),
+        unmade("closed", "out", "closed: cannot be read: no permission", nobody=True, add={"closed": TEXT},
+               setup=make(("chmod", "closed", 0))),
+        unmade("/dev/zero", "out", refusal_of("/dev/zero", b"")),
+        unwritten("/dev/null", "it is no regular file", nobody=True),
+        unwritten("folder", "it is no regular file", setup=make(("mkdir", "folder"))),
+        unwritten("missing/out", "no such file or folder"),
+        unwritten("", "no such file or folder"),
+        unwritten("out", taken, add={**TEXTS, "out.part": b"half a block"}),
+        unwritten("link", "it is a link that leads nowhere", setup=make(("symlink", "missing/new", "link"))),
+        unwritten("folder/out", "no permission", nobody=True, add={**TEXTS, "folder/x": b""},
+                  setup=make(("chmod", "folder", 0o555))),
+        unshown("missing", "missing: cannot be read: no such file or folder"),
+        unshown("pipe", PIPE % "pipe", setup=make(("mkfifo", "pipe"))),
+        unshown("bad", inspect_block.inspect("bad", FILES["mmr.block"])[-2], add={"bad": FILES["mmr.block"]}),
+    ]
+
+
+def refusal_of(name, text):
+    """The line about a text that is refused."""
+    try:
+        author.made_of(name, text)
+    except picture.NotWritten as why:
+        return str(why)
+
+
+def author_stopped_cases():
+    """BLOCK.part goes where author's own start made it."""
+    ended, slow = ': >"$2.part"; kill -9 $$', ': >>"$2.part"; : >started; exec sleep 60'
+    return [
+        write_text("text", "out", status=1, line="author: the program was ended before it was done (status 137)",
+                   programs=ended, add=TEXTS),
+        write_text("text", "out", status=143, kill=signal.SIGTERM, programs=slow, left={"started": b""}, add=TEXTS),
+        write_text("text", "out", status=130, kill=signal.SIGINT, programs=slow, left={"started": b""},
+                   add={**TEXTS, "out.part": b"of another"}),
+        write_text("--text", "block", status=1, said="", exact=True,
+                   line="author: the program was ended before it was done (status 137)", programs="kill -9 $$"),
+    ]
+
+
 def all_cases():
     return (use_cases() + good_cases() + link_cases() + output_cases() + refused_block_cases()
-            + refused_picture_cases() + unread_cases() + stopped_cases() + inspect_cases() + plot_cases())
+            + refused_picture_cases() + unread_cases() + stopped_cases() + inspect_cases() + plot_cases()
+            + author_use_cases() + author_good_cases() + author_bad_cases() + author_stopped_cases())

@@ -1,4 +1,4 @@
-"""Damaged command lines and files through ./compose and ./inspect, and good ones between.
+"""Damaged command lines and files through ./compose, ./inspect and ./author, and good ones between.
 
     python3 commands.py             over the proved programs, which are built where they are missing
     python3 commands.py second      over the second program, by way of second/bin
@@ -67,7 +67,7 @@ def as_nobody():
 def fake_programs(folder, script):
     """A folder of programs that do what this script does."""
     os.mkdir(folder)
-    for name in ("compose_file", "inspect"):
+    for name in ("compose_file", "inspect", "author"):
         path = os.path.join(folder, name)
         with open(path, "w") as file:
             file.write("#!/bin/sh\n%s\n" % script)
@@ -139,6 +139,8 @@ def fault(case, status, said, errors, before, after):
             return "%r is not as it should be" % name
     if case.said is not None and not said.endswith(os.fsencode(case.said)):
         return "standard output is %r, not %r at its end" % (said, case.said)
+    if case.exact and said != os.fsencode(case.said):
+        return "standard output is %r, not %r alone" % (said, case.said)
     return None
 
 
@@ -159,6 +161,7 @@ def build():
         subprocess.run([os.path.join(ROOT, "compose"), *names, "none", os.path.join(folder, "out")],
                        stdout=subprocess.DEVNULL)
         subprocess.run([os.path.join(ROOT, "inspect"), "--rules"], stdout=subprocess.DEVNULL)
+        subprocess.run([os.path.join(ROOT, "author"), "--text", names[0]], stdout=subprocess.DEVNULL)
 
 
 def main():

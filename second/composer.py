@@ -15,11 +15,9 @@ from limits import COEF_PLACES, PIECE_PLACES, PIVOT_PLACES
 
 def _zeros(*sizes):
     """A default value: zeros in nested lists of these sizes."""
-    def make(level):
-        if level == len(sizes):
-            return 0
-        return [make(level + 1) for _ in range(sizes[level])]
-    return field(default_factory=lambda: make(0))
+    def make(size, *inner):
+        return [make(*inner) for _ in range(size)] if inner else [0] * size
+    return field(default_factory=lambda: make(*sizes))
 
 
 @dataclass

@@ -3,7 +3,7 @@
 import limits
 from block import header_in_range
 from composer import compose_row_pairs, enhancement_used, row_pair_samples
-from limits import COEF_PLACES, PIECE_PLACES, PIVOT_PLACES
+from limits import PIECE_PLACES
 
 
 def job(plan, first, count, base, enhancement, output):
@@ -54,10 +54,9 @@ def _component_in_range(plan, cmp):
 
 def _pivots_in_range(plan, cmp, n):
     pred_pivot_value = plan.pred_pivot_value[cmp]
-    used = limits.pivots(n)
-    return (all(pred_pivot_value[i] in limits.samples(plan.BL_bit_depth)
-                for i in range(used))
-            and all(pred_pivot_value[i] == 0 for i in range(used, PIVOT_PLACES)))
+    used, allowed = limits.pivots(n), limits.samples(plan.BL_bit_depth)
+    return (all(pred_pivot_value[i] in allowed for i in range(used))
+            and not any(pred_pivot_value[used:]))
 
 
 def _piece_in_range(plan, cmp, piece):
@@ -68,13 +67,13 @@ def _piece_in_range(plan, cmp, piece):
         return False
     used = limits.coefs(order)
     return (all(coef[i] in allowed for i in range(used))
-            and all(coef[i] == 0 for i in range(used, COEF_PLACES)))
+            and not any(coef[used:]))
 
 
 def _piece_is_zero(plan, cmp, piece):
     return (plan.mapping_idc[cmp][piece] == 0
             and plan.poly_order_minus1[cmp][piece] == 0
-            and all(coef == 0 for coef in plan.fp_poly_coef[cmp][piece]))
+            and not any(plan.fp_poly_coef[cmp][piece]))
 
 
 def _quantization_in_range(plan, cmp):

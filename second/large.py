@@ -3,7 +3,7 @@
     python3 large.py BLOCK BASE ENHANCEMENT OUTPUT        (ENHANCEMENT may be none)
 
 A component's samples have few values: what each base code is mapped to, what each
-enhancement code adds and what a sum of both is cut to is worked out once, by composer's
+enhancement code adds and what a sum of both comes to is worked out once, by composer's
 own functions, and then looked up.  4096 x 2304 with an enhancement picture takes some
 seconds.  It says nothing: files that compose_file refuses stop it.  selftest.py holds it
 equal to picture.py.
@@ -27,32 +27,35 @@ def samples(data):
     return run
 
 
-def tables(plan, cmp, enhanced):
-    """What each base code is mapped to, what each enhancement code adds, what each sum of the two comes to.
+class Finished(dict):
+    """What a mapped sample and its residual together come to at an output depth, worked out when it is first asked."""
 
-    The residuals are counted from the smallest, so that no sum is negative: it is an index.
-    """
+    def __init__(self, depth):
+        self.depth = depth
+
+    def __missing__(self, h):
+        self[h] = composer.reconstruct(h, 0, 0, self.depth)
+        return self[h]
+
+
+def tables(plan, cmp, enhanced):
+    """What each base code is mapped to, and what each enhancement code adds."""
     pivot_value = composer.assign_pivot_values(plan.pred_pivot_value, plan.num_pivots_minus2)
     mapped = [composer.map_sample(plan, pivot_value, cmp, s) for s in limits.samples(plan.BL_bit_depth)]
-    added = [0]
-    if enhanced:
-        added = [composer.residual(plan, cmp, e) for e in limits.samples(plan.EL_bit_depth)]
-    least = min(added)
-    sums = range(least, max(mapped) + max(added) + 1)
-    cut = [composer.reconstruct(h, 0, 0, plan.hdr_bit_depth) for h in sums]
-    return mapped, [r - least for r in added], cut
+    added = [composer.residual(plan, cmp, e) for e in limits.samples(plan.EL_bit_depth)] if enhanced else []
+    return mapped, added
 
 
 def compose(plan, base, enhancement):
     """One picture; `enhancement` is empty where none is used."""
-    output = array.array("H")
+    output, finished = array.array("H"), Finished(plan.hdr_bit_depth)
     luma = plan.width * plan.height
     for cmp, (begin, end) in enumerate(((0, luma), (luma, luma * 5 // 4), (luma * 5 // 4, luma * 3 // 2))):
-        mapped, added, cut = tables(plan, cmp, len(enhancement) > 0)
+        mapped, added = tables(plan, cmp, len(enhancement) > 0)
         if enhancement:
-            output.extend([cut[mapped[s] + added[e]] for s, e in zip(base[begin:end], enhancement[begin:end])])
+            output.extend([finished[mapped[s] + added[e]] for s, e in zip(base[begin:end], enhancement[begin:end])])
         else:
-            output.extend([cut[mapped[s]] for s in base[begin:end]])
+            output.extend([finished[mapped[s]] for s in base[begin:end]])
     if sys.byteorder == "big":
         output.byteswap()
     return output.tobytes()

@@ -97,3 +97,5 @@ SHORTEST_SECTION = section_bytes(N[0], ORDERS[0])
 LONGEST_SECTION = section_bytes(N[-1], ORDERS[-1])
 SHORTEST_BLOCK = HEADER_BYTES + 3 * SHORTEST_SECTION + TRAILER_BYTES
 LONGEST_BLOCK = HEADER_BYTES + 3 * LONGEST_SECTION + TRAILER_BYTES
+
+TEXT_BYTES = 8192                   # of a plan as text (docs/TEXT.md), more than the longest has

@@ -4,7 +4,7 @@
     python3 make_vectors.py --check OUTDIR    exit 1 if one differs or is missing
 
 OUTDIR/compose_file/data has the example picture, from which what compose_file and
-inspect have to say is worked out.
+inspect have to say is worked out; author's texts are made from docs/TEXT.md and plans.
 """
 
 import os
@@ -15,6 +15,7 @@ import tempfile
 from collections import Counter
 
 import answers
+import author_cases
 import block
 import block_cases
 import compose_cases
@@ -27,6 +28,7 @@ import picture
 import places
 import plan_cases
 import sample_cases
+import write_cases
 
 
 def u16_run(values):
@@ -80,10 +82,25 @@ def plan_stream(groups):
         data = block.write(plan)
         out += struct.pack(">H", len(data)) + data + struct.pack(">H", len(cases))
         for case in cases:
-            out.append(len(case.edits))
-            for place, value in case.edits:
-                out += struct.pack(">Hq" if places.is_signed(place) else ">HQ",
-                                   places.NUMBERS[place], value)
+            out += plan_edits(case.edits)
+    return bytes(out)
+
+
+def plan_edits(edits):
+    """The changes of one case to a plan, with their number."""
+    out = bytearray([len(edits)])
+    for place, value in edits:
+        out += struct.pack(">Hq" if places.is_signed(place) else ">HQ", places.NUMBERS[place], value)
+    return bytes(out)
+
+
+def write_stream(groups):
+    """stdin of write_vectors."""
+    out = bytearray()
+    for data, cases in groups:
+        out += struct.pack(">H", len(data)) + data + struct.pack(">H", len(cases))
+        for case in cases:
+            out += plan_edits(case.edits) + struct.pack(">HHB", case.version, case.size, case.first)
     return bytes(out)
 
 
@@ -97,7 +114,7 @@ def example_files(outdir):
     sources = {name: picture.contents(os.path.join(data, name)) for name in compose_cases.SOURCES}
     made, groups = compose_cases.all_cases(sources)
     words = compose_cases.word_list(groups)
-    said, left = composed({**sources, **made}, words)
+    said, left = ran("picture.py", {**sources, **made}, words)
     compose_cases.checked(groups, said.decode("ascii").splitlines())
     assert left == set(sources) | set(made) | compose_cases.outputs(groups), left
     return {os.path.join("compose_file", "args"): text(words),
@@ -105,9 +122,9 @@ def example_files(outdir):
             **{os.path.join("compose_file", "data", name): made[name] for name in made}}
 
 
-def composed(files, words):
-    """(what picture.py says to the words, the files that stand there afterwards), in a folder of its own."""
-    program = os.path.join(os.path.dirname(os.path.abspath(__file__)), "picture.py")
+def ran(name, files, words):
+    """(what the program says to the words, the files that stand there afterwards), in a folder of its own."""
+    program = os.path.join(os.path.dirname(os.path.abspath(__file__)), name)
     with tempfile.TemporaryDirectory() as folder:
         for name, data in files.items():
             put(os.path.join(folder, name), data)
@@ -133,6 +150,18 @@ def inspect_files(outdir):
     files[os.path.join("inspect", "args")] = text(words)
     files[os.path.join("inspect", "stdout")] = text(inspect_block.answer(words, inspect_cases.reader(blocks)))
     return files
+
+
+def author_files():
+    """The files that author is run on, its words, and what it has to say of them."""
+    made, groups = author_cases.all_cases()
+    words = author_cases.word_list(groups)
+    said, left = ran("author.py", made, words)
+    author_cases.checked(groups, said.decode("ascii").splitlines())
+    assert left == set(made) | author_cases.outputs(groups), left
+    return {os.path.join("author", "args"): text(words),
+            os.path.join("author", "stdout"): said,
+            **{os.path.join("author", "data", name): made[name] for name in made}}
 
 
 def ten_lines_files(outdir):
@@ -162,6 +191,9 @@ def make(outdir):
     groups = plan_cases.all_groups()
     plan_stdin = plan_stream(groups)
     plan_lines = answers.plan_answers(plan_stdin)
+    written = write_cases.all_groups()
+    write_stdin = write_stream(written)
+    write_lines = answers.write_answers(write_stdin)
     files = {
         os.path.join("sample_vectors", "stdin"): sample_stdin,
         os.path.join("sample_vectors", "stdout"): text(sample_lines),
@@ -171,14 +203,21 @@ def make(outdir):
         os.path.join("night_vectors", "stdout"): text(night_lines),
         os.path.join("plan_vectors", "stdin"): plan_stdin,
         os.path.join("plan_vectors", "stdout"): text(plan_lines),
-        **example_files(outdir), **inspect_files(outdir), **ten_lines_files(outdir)}
+        os.path.join("write_vectors", "stdin"): write_stdin,
+        os.path.join("write_vectors", "stdout"): text(write_lines),
+        **example_files(outdir), **inspect_files(outdir), **author_files(), **ten_lines_files(outdir)}
     summary = (sample_summary(samples, sample_lines)
                + table("block_vectors", reads, block_lines)
                + night_summary(nights, night_lines)
-               + table("plan_vectors", [case for group in groups for case in group.cases],
-                       plan_lines)
-               + compose_summary(files[os.path.join("compose_file", "stdout")]))
+               + table("plan_vectors", cases_of(groups), plan_lines)
+               + table("write_vectors", cases_of(written), write_lines)
+               + compose_summary(files[os.path.join("compose_file", "stdout")])
+               + author_summary(files[os.path.join("author", "stdout")]))
     return files, summary
+
+
+def cases_of(groups):
+    return [case for group in groups for case in group.cases]
 
 
 def sample_summary(cases, lines):
@@ -217,6 +256,11 @@ def compose_summary(said):
     return ["compose_file: %d groups" % len(found), "  " + counts(found)]
 
 
+def author_summary(said):
+    found = [answer[-1] for answer in author_cases.answers(said.decode("ascii").splitlines())]
+    return ["author: %d groups" % len(found), "  " + counts(found)]
+
+
 def night_answer_of(line):
     return line if line.startswith("refused") else line.split()[0]
 
@@ -224,7 +268,7 @@ def night_answer_of(line):
 def answer_of(line):
     if line == "7":
         return "refused 7"
-    return line if line.startswith("refused") else "accepted"
+    return " ".join(line.split()[:2]) if line.startswith("refused") else "accepted"
 
 
 def table(title, cases, lines):
@@ -270,7 +314,7 @@ def check(outdir):
 
 def data_files(outdir):
     """What the programs are run on: a stray file there could be one that a case wants missing."""
-    for crate in ("compose_file", "inspect"):
+    for crate in ("compose_file", "inspect", "author"):
         for at, _, names in os.walk(os.path.join(outdir, crate, "data")):
             for name in names:
                 yield os.path.relpath(os.path.join(at, name), outdir)

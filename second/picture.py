@@ -76,8 +76,9 @@ class PictureFile:
 class Output:
     """OUTPUT.part, which becomes OUTPUT or is removed."""
 
-    def __init__(self, name):
+    def __init__(self, name, program="compose"):
         self.name = name
+        self.program = program
         self.part = name + ".part"
         if name == "":
             raise NotWritten(words.unwritten(name, errno.ENOENT))       # `.part` alone stands beside nothing
@@ -87,10 +88,12 @@ class Output:
         try:
             return call(*given, **named)
         except OSError as error:
-            raise NotWritten(words.unwritten(self.name, error.errno))
+            raise NotWritten(words.unwritten(self.name, error.errno, self.program))
 
     def write(self, run):
-        data = struct.pack("<%dH" % len(run), *run)
+        self.write_bytes(struct.pack("<%dH" % len(run), *run))
+
+    def write_bytes(self, data):
         while data:
             data = data[self.tried(self.file.write, data):]
 

@@ -1,6 +1,6 @@
 """The places of a plan in the order in which the vectors number them (README.md)."""
 
-import copy
+import pickle
 
 from limits import COEF_PLACES, PIECE_PLACES, PIVOT_PLACES
 
@@ -50,7 +50,7 @@ def put(plan, place, value):
 
 def changed(plan, edits):
     """A copy of the plan with these edits, (place, value), made in order."""
-    out = copy.deepcopy(plan)
+    out = pickle.loads(pickle.dumps(plan))      # many times faster than a deep copy
     for place, value in edits:
         put(out, place, value)
     return out

@@ -1,12 +1,15 @@
 """Checks the second program against the house rules' examples and hand work."""
 
 import copy
+import functools
 import os
 import struct
 import tempfile
 import zlib
 
 import answers
+import author
+import author_cases
 import block
 import block_cases
 import composer
@@ -21,10 +24,39 @@ import nights
 import picture
 import places
 import plan_cases
+import plan_text
 import sample_cases
 import words
+import write_cases
+import writer
+import wrong_writers
 from composer import (Plan, assign_pivot_values, compose_row_pairs, derive_pivot_idx,
                       inverse_quantization, map_sample, reconstruct)
+
+
+# What several tests look at is made once; no test changes it.
+all_nights = functools.lru_cache(maxsize=None)(night_cases.all_nights)
+plan_groups = functools.lru_cache(maxsize=None)(plan_cases.all_groups)
+
+
+@functools.lru_cache(maxsize=None)
+def read_blocks():
+    """{block, with the bytes before its header: plan}, of all that block_vectors has read."""
+    bases, cases = block_cases.all_cases()
+    found = {}
+    for case in cases:
+        data = block_cases.data_of(bases, case)
+        if data not in found:
+            number, plan = block.read(data)
+            if number == 0:
+                found[data] = plan
+    return found
+
+
+def block_of(data):
+    """A block without the bytes before its header: its last A + 12 bytes."""
+    A = struct.unpack(">H", data[-12:-10])[0]
+    return data[-(A + 12):]
 
 
 def set_section(plan, cmp, pivots, pieces):
@@ -246,20 +278,11 @@ def split(data):
 
 def test_round_trip():
     """Writing the plan of an accepted slice gives its last A + 12 bytes again."""
-    bases, cases = block_cases.all_cases()
-    accepted = 0
-    for case in cases:
-        data = bytearray(bases[case.base])
-        for offset, byte in case.edits:
-            data[offset] = byte
-        data = bytes(data[case.start:case.stop])
-        number, plan = block.read(data)
-        if number == 0:
-            accepted += 1
-            A = struct.unpack(">H", data[-12:-10])[0]
-            assert block.write(plan) == data[-(A + 12):]
-            assert not jobs.breaks_rule_7(plan)
-    assert accepted > 500
+    for data, plan in read_blocks().items():
+        whole = block_of(data)
+        assert writer.write_into(plan, 1, bytes(len(whole))) == (0, len(whole), whole)
+        assert not jobs.breaks_rule_7(plan)
+    assert len(read_blocks()) > 500
 
 
 def test_rule_7():
@@ -287,7 +310,7 @@ def test_rule_7():
 def test_plan_cases():
     """Each place was tried where it is used and where it is not, at its ends and beyond."""
     shown = set()
-    for group in plan_cases.all_groups():
+    for group in plan_groups():
         assert block.read(block.write(group.plan)) == (0, group.plan)
         for case in group.cases:
             plan = places.changed(group.plan, case.edits)
@@ -301,6 +324,73 @@ def test_plan_cases():
         assert ((place, True, True) in shown) == can_be_used
         assert ((place, False, True) in shown) == can_be_free
         assert (place, True, False) in shown or not can_be_used or place[0] == "mapping_idc"
+
+
+def test_writer():
+    """By hand, at d = 15: -1.5 is -2 and a half, -2^-15 is -1 and 32,767 / 2^15; places as in test_what_is_said."""
+    plan = small_plan(pieces=((-3 << 14, -1),))
+    plan.fp_linear_deadzone_slope[2], plan.fp_linear_deadzone_threshold[2] = (1 << 15) + 2, 3
+    number, length, after = writer.write_into(plan, 1, b"\xaa" * 141)
+    assert (number, length, after[138:]) == (0, 138, b"\xaa" * 3)
+    assert after[:24] == bytes.fromhex("01000f0202040000" "0001000103e80000" "0000000000000000")
+    y = bytes.fromhex("00" "000003ff" "0000" "fe00004000" "ff00007fff" "0000" "0000000000")
+    assert after[24:126] == 2 * (y + bytes(10)) + y + bytes.fromhex("0100000002" "0000000003")
+    assert after[126:138] == bytes.fromhex("007e0066004400220001" "0000")
+    assert writer.write_into(plan, 1, b"\xaa" * 138) == (0, 138, after[:138])
+    for size in (0, 12, 137):
+        assert writer.write_into(plan, 1, b"\xaa" * size) == (12, 0, b"\xaa" * size)
+    for version in (0, 2, 257, 65535):
+        assert writer.length(plan, version) == 0
+        for size in (0, 137, 138, 200):
+            assert writer.write_into(plan, version, b"\xaa" * size) == (7, 0, b"\xaa" * size)
+    assert writer.write_into(Plan(), 1, b"\xaa") == (7, 0, b"\xaa")
+    assert [writer.length(plan, 1) for plan in (Plan(), plan, largest_plan())] == [0, 138, 1008]
+
+
+def test_check_sum():
+    """What its authors give for FNV-1a of 32 bits."""
+    assert [answers.fnv_1a(data) for data in (b"", b"a", b"foobar")] == [0x811c9dc5, 0xe40c292c, 0xbf9cf968]
+
+
+def test_write_cases():
+    """Each kind of case tells the wrong writers that it is said to show, and each wrong writer is shown."""
+    kinds = {}
+    for group in write_cases.all_groups():
+        assert len(group.data) <= write_cases.LARGEST_BLOCK
+        plan = write_cases.plan_of(group.data)
+        for case in group.cases:
+            assert case.size <= write_cases.LARGEST_SLICE
+            kinds.setdefault(case.kind, []).append(Written(plan, case))
+    assert set(kinds) == set(write_cases.SHOWS)
+    assert {name for names in write_cases.SHOWS.values() for name in names} == set(wrong_writers.WRONG)
+    for kind, names in write_cases.SHOWS.items():
+        for name in names:
+            assert any(case.tells(wrong_writers.WRONG[name]) for case in kinds[kind]), (kind, name)
+
+
+class Written:
+    """A case of write_vectors, its plan changed as it says."""
+
+    def __init__(self, plan, case):
+        self.given = places.changed(plan, case.edits), case.version, case.size, case.first
+
+    @functools.cached_property
+    def line(self):
+        return answers.write_line(*self.given)
+
+    def tells(self, wrong):
+        """Whether the line would be another with this writer."""
+        return self.line != answers.write_line(*self.given, by=wrong)
+
+
+def test_write_line():
+    """The example of docs/TEXT.md: its block has 138 bytes, and its text is the page's, byte by byte."""
+    text = author_cases.joined(author_cases.LINES)
+    plan = block.read(plan_text.read_text(text).data)[1]
+    line = answers.write_line(plan, 1, 138, 0).split()
+    assert line[:3] == ["written", "138", "138"] and line[4] == "0" and line[5:9] == line[:4]
+    assert line[9:] == [str(len(text)), str(answers.fnv_1a(text)), "same", "same"]
+    assert answers.write_line(plan, 1, 137, 0).split()[:3] == ["refused", "12", "138"]
 
 
 def test_jobs():
@@ -491,7 +581,7 @@ def lent_runs(night, job):
 
 def test_demand_3():
     """Demand 3's sentence over the random nights; marks play no part in it."""
-    chosen = [night for night in night_cases.all_nights() if night.kind == "random"]
+    chosen = [night for night in all_nights() if night.kind == "random"]
     accepted = refused = complete = 0
     for night in chosen:
         opening, jobs_done, output, _ = played(night)
@@ -526,7 +616,7 @@ def test_demand_3():
 
 def test_any_night():
     """Every night: the last accepted job that named a row pair decides its samples."""
-    for night in night_cases.all_nights():
+    for night in all_nights():
         opening, jobs_done, output, marks = played(night)
         opened = opening == "open %d" % night.ticket
         assert opened or opening in ("refused 7", "refused 9")
@@ -571,7 +661,7 @@ def broken_rules(night, job):
 def test_order_nights():
     """All 31 choices of rules 7 to 11 are there, and the lowest is the answer."""
     found = set()
-    for night in night_cases.all_nights():
+    for night in all_nights():
         if night.kind.endswith("alone") or night.kind.endswith("before later rules"):
             _, jobs_done, _, _ = played(night)
             for job, answer in jobs_done:
@@ -584,7 +674,7 @@ def test_order_nights():
 
 def test_night_limits():
     """What README.md says of the sizes in night_vectors."""
-    for night in night_cases.all_nights():
+    for night in all_nights():
         sizes = [night.plan.picture_samples, night.output_size, *map(len, night.runs)]
         assert max(sizes) <= night_cases.LARGEST_RUN
         assert len(night.marks) <= night_cases.LARGEST_MARKS
@@ -702,7 +792,130 @@ def test_what_inspect_answers():
         [".: cannot be read: it is a folder", "not shown"] + shown + use)
     rules = inspect_block.answer(["--rules"], read)
     assert rules[0] == "1 short: hand over the whole block, up to its last byte"
-    assert rules[10:] == ["11 sample: the decoder handed over a broken picture", "shown"]
+    assert rules[10:] == ["11 sample: the decoder handed over a broken picture",
+                          "12 room: lend a slice of the block's length or more", "shown"]
+
+
+def test_text_by_hand():
+    """The block of test_what_is_shown as text; -1 / 2^15 is -1 and 32,767 parts, -64 has no fraction."""
+    plan = small_plan()
+    set_section(plan, 0, (16, 516, 516), [(-1, 1 << 15), (-(64 << 15), 3)])
+    plan.nlq_offset[0], plan.fp_linear_deadzone_slope[0] = 512, (1 << 15) + 1
+    lines = plan_text.text_of(plan).decode().split("\n")
+    assert lines[:31] == [
+        "version 1", "ccm_profile 1", "ccm_level 0", "coefficient_log2_denom 15", "BL_bit_depth_minus8 2",
+        "EL_bit_depth_minus8 2", "hdr_bit_depth_minus8 4", "disable_residual_flag 0", "W/2 1", "H/2 1",
+        "max_display_mastering_luminance 1000", "min_display_mastering_luminance 0",
+        "component 0", "num_pivots_minus2 1", "pred_pivot_value 16 500 0",
+        "piece 0", "mapping_idc 0", "poly_order_minus1 0", "poly_coef -1 32767", "poly_coef 1 0",
+        "piece 1", "mapping_idc 0", "poly_order_minus1 0", "poly_coef -64 0", "poly_coef 0 3",
+        "nlq_offset 512", "hdr_in_max 0 0", "linear_deadzone_slope 1 1", "linear_deadzone_threshold 0 0",
+        "component 1", "num_pivots_minus2 0"]
+    assert len(lines) == 12 + 17 + 12 + 12 + 1 and lines[-1] == ""
+    # 12 bytes and a pivot more than the shortest block
+    made = plan_text.read_text("\n".join(lines).encode())
+    assert len(made.data) == 138 + 14 and made.data == block.write(plan)
+    assert made.header_lines["H/2"] == 10
+    # the first section: n at 24, pivots from 25, the piece's own bytes at 31 and 32, its coefficients from 33
+    assert [made.lines[place] for place in (24, 25, 29, 31, 32, 33, 34, 38, 43, 72)] == [
+        14, 15, 15, 17, 18, 19, 19, 20, 22, 31]
+
+
+def test_text_page():
+    """The example of docs/TEXT.md is the shortest block: numbers of it by hand."""
+    data = plan_text.read_text(author_cases.joined(author_cases.LINES)).data
+    assert len(data) == 138 == limits.SHORTEST_BLOCK and block.read(data)[0] == 0
+    assert data[:24] == bytes([1, 0, 23, 2, 2, 4, 0, 0, 3, 192, 2, 28, 3, 232, 0, 0, 0, 0, 0, 50, 0, 0, 0, 0])
+    section = bytes([0, 0, 0, 3, 255, 0, 0] + [0] * 5 + [1, 0, 0, 0, 0] + [2, 0] + [0, 0, 64, 0, 0]
+                    + [0, 0, 32, 0, 0] + [0] * 5)
+    assert data[24:126] == 3 * section
+    assert data[126:] == bytes([0, 126, 0, 102, 0, 68, 0, 34, 0, 1, 0, 0])
+
+
+def is_whole_circle(data):
+    """Block to text to block gives the same bytes, and text to block to text the same text."""
+    text, made, again = plan_text.circle(data)
+    return made == data and again == text
+
+
+def test_text_identities():
+    """Over every block of the vectors that is read, and every plan of them that passes rule 7."""
+    blocks = {block_of(data) for data in read_blocks()}
+    plans = [places.changed(group.plan, case.edits) for group in plan_groups() for case in group.cases]
+    written = {block.write(plan) for plan in plans if not jobs.breaks_rule_7(plan)}
+    assert len(blocks) > 500 and len(written) > 500
+    for data in blocks | written:
+        assert is_whole_circle(data), data
+
+
+def test_texts_near_by():
+    """Every text that one byte changed, put in or left out makes of a good one: an accepted one is its block's text."""
+    good = author_cases.joined(author_cases.LINES)
+    texts = {good[:at] + byte + good[at + gone:] for at in range(len(good) + 1) for gone in (0, 1)
+             for byte in (b"", b"0", b"7", b"-", b" ", b"\n")}
+    refused = accepted = 0
+    for text in texts - {good}:
+        try:
+            data = author.made_of("x", text)
+        except picture.NotWritten:
+            refused += 1
+            continue
+        assert plan_text.text_of(block.read(data)[1]) == text, text
+        accepted += 1
+    assert accepted > 100 and refused > 5000
+
+
+def test_what_author_answers():
+    """By hand, with the example's lines: line 14 has the number of pivots of luma, line 29 mapping_idc of Cb."""
+    lines = author_cases.LINES
+
+    def said(*edits):
+        try:
+            return author.made_of("x", author_cases.changed(lines, *edits))
+        except picture.NotWritten as why:
+            return str(why)
+    expected = [
+        ((3, "ccm_level 300"), "line 3: 300 does not fit ccm_level, which holds 0 to 255"),
+        ((12, "poly_coef 0 0"), "line 12: min_display_mastering_luminance is expected"),
+        ((14, "num_pivots_minus2 16"), "line 14: refused 5 (field): num_pivots_minus2[0] is 16, allowed 0 to 15"),
+        ((19, "poly_coef -65 0"), "line 19: refused 5 (field): poly_coef_int[0][0][0] is -65, allowed -64 to 63"),
+        ((20, "poly_coef 1 8388608"), "line 20: refused 5 (field): poly_coef[0][0][1] is 8388608, "
+                                      "allowed less than 8388608"),
+        ((29, "mapping_idc 1"), "line 29: refused 6 (method): mapping_idc[1][0] is 1, allowed 0"),
+        ((48, "linear_deadzone_threshold 2 0"), "line 48: refused 5 (field): linear_deadzone_threshold_int[2] is 2, "
+                                                "allowed 0 to 1"),
+        ((6, "EL_bit_depth_minus8 0"), "line 6: refused 4 (header): EL_bit_depth_minus8 is 0, "
+                                       "allowed 2, as BL_bit_depth_minus8 is"),
+        ((1, "version 2"), "line 1: refused 2 (trailer): A is 126, D0 is 102, D1 is 68, D2 is 34, version is 2, "
+                           "zero is 0, allowed A = D0 + 24, D0 > D1 > D2 > 0, version 1, zero 0"),
+    ]
+    for edit, found in expected:
+        assert said(edit) == "x: " + found, said(edit)
+    # the last section ends at its n, one byte long, and the trailer is right
+    made = plan_text.read_text(author_cases.changed(lines[:38], (38, "num_pivots_minus2 99")))
+    assert made.data[92:] == bytes([99]) + bytes([0, 93, 0, 69, 0, 35, 0, 1, 0, 1, 0, 0])
+    # the first one does: two sections of one byte 0 follow
+    made = plan_text.read_text(author_cases.changed(lines[:14], (14, "num_pivots_minus2 99")))
+    assert made.data[24:] == bytes([99, 0, 0]) + bytes([0, 27, 0, 3, 0, 2, 0, 1, 0, 1, 0, 0])
+
+
+def test_author():
+    """Several groups of words in one run; a refused text leaves no file."""
+    good = author_cases.joined(author_cases.LINES)
+    with Folder() as folder:
+        folder.put("text", good)
+        folder.put("bad", good[:-1])
+        given = ["text", "out", "--text", "out", "bad", "new", "--text", "text", "left"]
+        lines = [line.replace(folder.path(""), "") for line in author.answer(
+            [word if word == author.SHOW else folder.path(word) for word in given])]
+        adler = zlib.adler32(plan_text.read_text(good).data)
+        assert lines[:2] == ["out: 138 bytes, Adler-32 %d" % adler, "written"]
+        assert lines[2:51] == good.decode().splitlines() + ["shown"]
+        assert lines[51:53] == ["bad: line 48: the end of the line is expected", "not written"]
+        assert lines[53].startswith("text: refused 2 (trailer) at byte ") and lines[54] == "not shown"
+        assert lines[55:] == ["use: author TEXT BLOCK ... | author --text BLOCK ...", "not written"]
+        assert folder.left() == ["bad", "out", "text"]
+    assert list(author.answer([])) == author.USE
 
 
 class Folder:

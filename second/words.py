@@ -29,7 +29,7 @@ def tables():
             for line in refusals.splitlines() if re.match(r"\| \d", line)]
     names = {int(row[0]): row[1] for row in rows if len(row) == 3}
     advice = {int(row[0]): row[1] for row in rows if len(row) == 2}
-    assert set(names) == set(advice) == set(range(1, 12))
+    assert set(names) == set(advice) == set(range(1, 13))
     return names, advice
 
 
@@ -50,10 +50,11 @@ def unread(name, number):
     return "%s: cannot be read: %s" % (name, error_words(number))
 
 
-def unwritten(name, number):
+def unwritten(name, number, program="compose"):
+    """`program` is who writes the file."""
     if number == errno.EEXIST:
-        return ("%s: cannot be written: %s.part is in the way: another compose writes it, or one was stopped; remove it"
-                % (name, name))
+        return ("%s: cannot be written: %s.part is in the way: another %s writes it, or one was stopped; remove it"
+                % (name, name, program))
     if number == errno.EINVAL:
         return "%s: cannot be written: it is no regular file" % name
     return "%s: cannot be written: %s" % (name, error_words(number))

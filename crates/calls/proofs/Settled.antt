@@ -9,6 +9,9 @@ use Rattle.refusals.specs.Refusals.{Outcome}
 use Rattle.compose.specs.declared.Composed.{Composed}
 use Rattle.compose.specs.declared.Composed.the-variants as composed
 use Rattle.compose.specs.Composing as composing
+use Rattle.writer.specs.declared.Writing.{Writing}
+use Rattle.writer.specs.declared.Writing.the-variants as written
+use Rattle.writer.specs.Writing as writing
 use Rattle.jobs.specs.declared.Opened.{Opened}
 use Rattle.jobs.specs.declared.Opened.the-variants as opened
 use Rattle.jobs.specs.Jobs.{opened-says}
@@ -33,6 +36,12 @@ one-composed composed.Written (composed.Refused k) e = absurd (true≢false (sym
 one-composed (composed.Refused k) composed.Written e = absurd (true≢false (same-case e))
 one-composed (composed.Refused k) (composed.Refused l) e = ap composed.Refused (same-number e)
 
+one-written : (r r' : Writing) → writing.says r ≡ writing.says r' → r ≡ r'
+one-written (written.Written n) (written.Written m) e = ap written.Written (same-value e)
+one-written (written.Written n) (written.Refused k) e = absurd (true≢false (sym (same-case e)))
+one-written (written.Refused k) (written.Written n) e = absurd (true≢false (same-case e))
+one-written (written.Refused k) (written.Refused l) e = ap written.Refused (same-number e)
+
 one-opened : (r r' : Opened) → opened-says r ≡ opened-says r' → r ≡ r'
 one-opened (opened.Open t) (opened.Open u) e = ap opened.Open (same-value e)
 one-opened (opened.Open t) (opened.Refused k) e = absurd (true≢false (sym (same-case e)))
@@ -51,6 +60,9 @@ settled =
       passes = λ κs a r r' s s' p q. p ∙ sym q;
       empty = λ κs a r r' s s' p q. p .0 ∙ sym (q .0);
       read = λ κs a r r' s s' p q. p .0 ∙ sym (q .0);
+      write = λ κs a r r' s s' p q. one-written r r' (p .0 ∙ sym (q .0));
+      written-slice = λ κs a r r' s s' p q. p .1 .0 ∙ sym (q .1 .0);
+      length = λ κs a r r' s s' p q. p .0 ∙ sym (q .0);
       compose-row-pairs = λ κs a r r' s s' p q. one-composed r r' (p .0 ∙ sym (q .0));
       composed-output = λ κs a r r' s s' p q. p .1 ∙ sym (q .1);
       open-picture = λ κs a r r' s s' p q. one-opened r r' (p .0 ∙ sym (q .0));
@@ -85,11 +97,14 @@ leaves-settled =
       least = λ κs a r r' s s' p q. p ∙ sym q;
       plain-planes = λ κs a r r' s s' p q. p ∙ sym q;
       enhanced-planes = λ κs a r r' s s' p q. p ∙ sym q;
+      speed-write = λ κs a r r' s s' p q. p .0 ∙ sym (q .0);
+      speed-slice = λ κs a r r' s s' p q. p .1 ∙ sym (q .1);
       speed-job = λ κs a r r' s s' p q. p .0 ∙ sym (q .0);
       speed-output = λ κs a r r' s s' p q. p .1 .0 ∙ sym (q .1 .0);
       speed-marks = λ κs a r r' s s' p q. p .1 .1 ∙ sym (q .1 .1);
       run-length = λ κs a r r' s s' p q. p ∙ sym q;
       composed-number = λ κs a r r' s s' p q. p ∙ sym q;
+      written-number = λ κs a r r' s s' p q. p ∙ sym q;
       opened-number = λ κs a r r' s s' p q. p ∙ sym q;
       job-number = λ κs a r r' s s' p q. p ∙ sym q;
       is-complete = λ κs a r r' s s' p q. p ∙ sym q;

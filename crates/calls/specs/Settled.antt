@@ -7,6 +7,8 @@ use denote.Ref.{now}
 use Rattle.rule_seven.proofs.passes.Reads as passes-promise
 use Rattle.plan.proofs.empty.Reads as empty-promise
 use Rattle.block.proofs.read.Reads as read-promise
+use Rattle.writer.proofs.write.Reads as write-promise
+use Rattle.writer.proofs.length.Reads as length-promise
 use Rattle.compose.proofs.compose_row_pairs.Reads as compose-row-pairs-promise
 use Rattle.jobs.proofs.open_picture.Reads as open-picture-promise
 use Rattle.jobs.proofs.compose_job.Reads as compose-job-promise
@@ -28,6 +30,9 @@ pub record Settled : Type 0 where
   pub passes : OneAnswer passes-promise.Post
   pub empty : OneAnswer empty-promise.Post
   pub read : OneAnswer read-promise.Post
+  pub write : OneAnswer write-promise.Post
+  pub written-slice : OneContent write-promise.Post (λ c. now (c .left .1 .1 .0))
+  pub length : OneAnswer length-promise.Post
   pub compose-row-pairs : OneAnswer compose-row-pairs-promise.Post
   pub composed-output : OneContent compose-row-pairs-promise.Post (λ c. let pictures = c .left .1 .1 .1 in now (pictures .1 .1 .0))
   pub open-picture : OneAnswer open-picture-promise.Post

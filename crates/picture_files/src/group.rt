@@ -7,7 +7,6 @@ use plan::Header;
 use saying::say;
 use saying::say_advice;
 use saying::say_argument;
-use saying::say_error;
 use saying::say_number;
 use saying::say_refused;
 use saying::say_unread;
@@ -115,17 +114,7 @@ pub fn say_task(h: Header, pictures: usize, enhanced: bool) {
 
 // Why the output cannot be written, by the error of the call that failed.
 pub fn say_unwritten(i: usize, error: i32) {
-    say_argument(i);
-    say(b": cannot be written: ");
-    if error == libc::EEXIST {
-        say_argument(i);
-        say(b".part is in the way: another compose writes it, or one was stopped; remove it");
-    } else if error == libc::EINVAL {
-        say(b"it is no regular file");
-    } else {
-        say_error(error);
-    }
-    say(b"\n");
+    saying::say_unwritten(i, error, b"compose");
 }
 
 // A file that ended while it was read.

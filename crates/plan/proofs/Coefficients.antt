@@ -20,7 +20,7 @@ within-top n (pos m) e = omega (arith, ltb-true m n (both (leZ (negℤ (pos n)) 
 within-top zero (negsuc m) e = absurd (false≢true e)
 within-top (suc n) (negsuc m) e = omega (arith, leb-true m n (both (leb m n) true e .0))
 
-zero-abs : (z : ℤ) → natAbs z ≡ 0 → z ≡ pos 0
+pub zero-abs : (z : ℤ) → natAbs z ≡ 0 → z ≡ pos 0
 zero-abs (pos n) e = ap pos e
 zero-abs (negsuc n) e = absurd (omega arith)
 

@@ -1,34 +1,10 @@
 // Holds the plans of the second program's vectors against rule 7 (second/README.md has their format): plans as read, with some
 // places changed, and one line of answer for each, 0 or 7. A stream that is malformed ends there.
-mod places; // a plan with one place changed
-
-use places::put;
 use plan::Plan;
 use rule_seven::passes;
 use streams::next_block;
-use streams::next_byte;
-use streams::next_long;
 use streams::next_number;
-
-// A number of 64 bits, the high byte first.
-fn next_value() -> u64 {
-    let high = next_long();
-    let low = next_long();
-    (high as u64) * 4294967296 + (low as u64)
-}
-
-// The plan with the changes of one case.
-fn next_plan(given: Plan) -> Plan {
-    let mut plan = given;
-    let mut left = next_byte();
-    while 0 < left {
-        let place = next_number().value;
-        let v = next_value();
-        plan = put(plan, place, v);
-        left -= 1;
-    }
-    plan
-}
+use streams::next_plan;
 
 fn say(fits: bool) {
     if fits {

@@ -68,3 +68,20 @@ pub fn say_unread(i: usize) {
     say_error(error);
     end_line();
 }
+
+// Why the file that argument i names cannot be written, by the error of the call that failed; `program` writes it.
+pub fn say_unwritten(i: usize, error: i32, program: &[u8]) {
+    say_argument(i);
+    say(b": cannot be written: ");
+    if error == libc::EEXIST {
+        say_argument(i);
+        say(b".part is in the way: another ");
+        say(program);
+        say(b" writes it, or one was stopped; remove it");
+    } else if error == libc::EINVAL {
+        say(b"it is no regular file");
+    } else {
+        say_error(error);
+    }
+    end_line();
+}

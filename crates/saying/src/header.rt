@@ -25,7 +25,7 @@ use plan::limits::MOST_LUMINANCE;
 use plan::limits::MOST_PAIRS;
 
 // A column's first byte.
-fn place_of(kind: u8) -> usize {
+pub(crate) fn place_of(kind: u8) -> usize {
     match kind {
         PROFILE => 0,
         LEVEL => 1,

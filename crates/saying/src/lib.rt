@@ -9,12 +9,16 @@ mod rules; // the rules' names, and what to do about each
 
 pub use errors::say_error;
 pub use errors::say_unread;
+pub use errors::say_unwritten;
 pub use fixed::say_about;
 pub use fixed::say_fraction;
 pub use fixed::say_integer_part;
+pub use parts::block_of;
 pub use parts::bytes_before;
 pub use parts::say_part;
 pub use parts::trailer_number;
+pub use refusal::refused_at;
+pub use refusal::say_line_refusal;
 pub use refusal::say_refusal;
 pub use rules::say_advice;
 pub use rules::say_refused;

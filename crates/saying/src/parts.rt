@@ -41,6 +41,11 @@ pub(crate) fn part_at(bytes: &[u8], k: usize) -> usize {
     if distance <= t { t - distance } else { 0 }
 }
 
+// The block alone, from its header on, of bytes that reading accepts.
+pub fn block_of(bytes: &[u8]) -> &[u8] {
+    rest(bytes, part_at(bytes, 0))
+}
+
 // How many bytes stand before these, the last ones, in the file that argument i names.
 pub fn bytes_before(i: usize, bytes: &[u8]) -> usize {
     let length = files::file_length(i);

@@ -1,6 +1,8 @@
 // The line about a block that is refused: the rule, where its failure was met, what was found there and what is
 // allowed.
+use crate::end_line;
 use crate::field::say_field;
+use crate::header::place_of;
 use crate::header::say_column;
 use crate::parts::bytes_before;
 use crate::parts::part_at;
@@ -9,11 +11,14 @@ use crate::parts::say_place;
 use crate::parts::trailer_at;
 use crate::parts::trailer_number;
 use crate::rules::say_advice;
+use crate::rules::say_number_and_name;
 use crate::rules::say_refused;
 use crate::say;
+use crate::say_argument;
 use crate::say_line;
 use crate::say_number;
 use fields::Name;
+use std::num::wrapping_add_usize;
 
 // Rule 1. It is never met in a file that is longer than what was read of it: a trailer cannot point back so far.
 fn say_short(bytes: &[u8]) {
@@ -77,4 +82,31 @@ pub fn say_refusal(i: usize, number: u8, place: usize, field: Name, bytes: &[u8]
     say(b": ");
     say_found(number, place, field, bytes, before);
     say_advice(number);
+}
+
+// The first byte of the field that reading refused: of a header, all of which is refused at its begin, the column's.
+pub fn refused_at(number: u8, place: usize, field: Name) -> usize {
+    if number == 4 {
+        return wrapping_add_usize(place, place_of(field.kind));
+    }
+    place
+}
+
+// A refusal of a block that was made of the text that argument i names, with a line of the text in place of the byte.
+// Who wrote the text is told, so no advice is given.
+pub fn say_line_refusal(
+    i: usize,
+    line: usize,
+    number: u8,
+    place: usize,
+    field: Name,
+    bytes: &[u8],
+) {
+    say_argument(i);
+    say(b": line ");
+    say_number(line);
+    say_number_and_name(number);
+    say(b": ");
+    say_found(number, place, field, bytes, 0);
+    end_line();
 }

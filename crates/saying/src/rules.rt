@@ -8,7 +8,7 @@ use crate::say_number;
 
 fn say_name(number: usize) {
     say_line(
-        b"\nshort\ntrailer\nlength\nheader\nfield\nmethod\nplan\nticket\nrun\nrows\nsample\n",
+        b"\nshort\ntrailer\nlength\nheader\nfield\nmethod\nplan\nticket\nrun\nrows\nsample\nroom\n",
         number,
     );
 }
@@ -22,23 +22,28 @@ fn say_what_to_do(number: usize) {
         a picture or a profile that this composer does not do\n\
         the block's maker has a fault: tell them the field and the byte\n\
         MMR mapping is not built yet\n\
-        use a plan as reading gave it\n\
+        use a plan as reading gave it, or keep to the ranges of a block\n\
         a late job of another picture: drop it\n\
         hand over whole pictures of this size\n\
         name row pairs of this picture\n\
-        the decoder handed over a broken picture\n",
+        the decoder handed over a broken picture\n\
+        lend a slice of the block's length or more\n",
         number,
     );
 }
 
-// The begin of the line about a refused file, which argument i names: what was found comes next, and then the advice.
-pub fn say_refused(i: usize, number: u8) {
-    say_argument(i);
+pub(crate) fn say_number_and_name(number: u8) {
     say(b": refused ");
     say_number(number as usize);
     say(b" (");
     say_name(number as usize);
     say(b")");
+}
+
+// The begin of the line about a refused file, which argument i names: what was found comes next, and then the advice.
+pub fn say_refused(i: usize, number: u8) {
+    say_argument(i);
+    say_number_and_name(number);
 }
 
 // The end of that line.
@@ -60,7 +65,7 @@ fn say_rule(number: usize) {
 // All rules, one a line.
 pub fn say_rules() {
     let mut number: usize = 1;
-    while number < 12 {
+    while number < 13 {
         say_rule(number);
         number += 1;
     }

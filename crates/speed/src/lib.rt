@@ -1,9 +1,11 @@
-// A row job under a name that a C harness can link, for measuring only.
+// A row job, and the writer, under names that a C harness can link, for measuring only.
 use jobs::compose_job;
 use jobs::number;
 use plan::Plan;
 ghost use mathlib.Core.Path.{_≡_};
+ghost use lib.ListN.{length};
 ghost use Rattle.jobs.specs.Jobs.{job, job-answer, output-after, marks-after};
+ghost use Rattle.writer.specs.Writing.{answer, written};
 
 // 0 where the job is done, else the refusal's number.
 #[no_mangle]
@@ -33,4 +35,13 @@ pub extern "C" fn speed_job(
         output,
         marks,
     ))
+}
+
+// 0 where the block is written, else the refusal's number.
+#[no_mangle]
+pub extern "C" fn speed_write(plan: Plan, version: u16, out: &mut [u8]) -> u8
+    ensures answers { λ r. ⌜ r ≡ answer plan version (length (now (out .entry))) .number ⌝ }
+    ensures writes { λ _. ⌜ now (out .exit) ≡ written plan version (now (out .entry)) ⌝ }
+{
+    writer::number(writer::write(plan, version, out))
 }

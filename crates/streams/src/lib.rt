@@ -1,5 +1,9 @@
-// What the vector programs share: numbers and runs from standard input, runs to standard output.
+// What the vector programs share: numbers, runs and plans from standard input, runs to standard output.
+mod places; // a plan with one place changed
+
 use block::Reading;
+use places::put;
+use plan::Plan;
 ghost use mathlib.Core.Path.{_≡_};
 ghost use Prim.Native.Nat.{_<_, _≤_};
 ghost use Rattle.runs.specs.Runs.{painted};
@@ -75,6 +79,26 @@ pub fn next_block(bytes: &mut [u8], n: usize) -> Reading
         return block::read(b"");
     }
     block::read(&bytes[..n])
+}
+
+// A number of 64 bits, the high byte first.
+fn next_value() -> u64 {
+    let high = next_long();
+    let low = next_long();
+    (high as u64) * 4294967296 + (low as u64)
+}
+
+// The plan with the changes that come next, after their number: each a place and its new value, made in order.
+pub fn next_plan(given: Plan) -> Plan {
+    let mut plan = given;
+    let mut left = next_byte();
+    while 0 < left {
+        let place = next_number().value;
+        let v = next_value();
+        plan = put(plan, place, v);
+        left -= 1;
+    }
+    plan
 }
 
 // What an output holds before any call, so that rows that nobody wrote show.

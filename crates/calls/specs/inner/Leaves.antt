@@ -23,6 +23,8 @@ use Rattle.rule_seven.proofs.quantizes.Reads as quantizes-promise
 use Rattle.spans.proofs.least.Reads as least-promise
 use Rattle.planes.proofs.plain_planes.Reads as plain-planes-promise
 use Rattle.planes.proofs.enhanced_planes.Reads as enhanced-planes-promise
+use Rattle.writer.proofs.number.Reads as written-number-promise
+use Rattle.speed.proofs.speed_write.Reads as speed-write-promise
 use Rattle.speed.proofs.speed_job.Reads as speed-job-promise
 use Rattle.compose.proofs.picture_size.Reads as run-length-promise
 use Rattle.compose.proofs.number.Reads as composed-number-promise
@@ -54,11 +56,14 @@ pub record LeavesSettled : Type 0 where
   pub least : OneAnswer least-promise.Post
   pub plain-planes : OneContent plain-planes-promise.Post (λ c. now (c .left .1 .1 .1 .0))
   pub enhanced-planes : OneContent enhanced-planes-promise.Post (λ c. now (c .left .1 .1 .1 .1 .0))
+  pub speed-write : OneAnswer speed-write-promise.Post
+  pub speed-slice : OneContent speed-write-promise.Post (λ c. now (c .left .1 .1 .0))
   pub speed-job : OneAnswer speed-job-promise.Post
   pub speed-output : OneContent speed-job-promise.Post (λ c. let pictures = c .left .1 .1 .1 .1 .1 in now (pictures .1 .1 .0))
   pub speed-marks : OneContent speed-job-promise.Post (λ c. let pictures = c .left .1 .1 .1 .1 .1 in now (pictures .1 .1 .1 .0))
   pub run-length : OneAnswer run-length-promise.Post
   pub composed-number : OneAnswer composed-number-promise.Post
+  pub written-number : OneAnswer written-number-promise.Post
   pub opened-number : OneAnswer opened-number-promise.Post
   pub job-number : OneAnswer job-number-promise.Post
   pub is-complete : OneAnswer is-complete-promise.Post

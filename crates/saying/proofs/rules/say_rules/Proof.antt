@@ -4,10 +4,10 @@ use Rattle.saying.proofs.rules.say_rules.Statement.{statement}
 use Rattle.saying.proofs.rules.say_rules.Tie as tie
 
 abbrev Inv-loop : tie.InvT-loop
-Inv-loop number₀ number = number ≤ 12
+Inv-loop number₀ number = number ≤ 13
 
 abbrev μ-loop : tie.MeasureT-loop
-μ-loop number₀ number = 12 - number
+μ-loop number₀ number = 13 - number
 
 pub say-rules-spec : {M : Type 1} → statement M
 say-rules-spec =

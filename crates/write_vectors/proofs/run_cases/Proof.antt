@@ -1,24 +1,22 @@
 use borrow.Author.Needs.{needs}
 use Prim.Native.Nat.{_≤_}
-use Rattle.plan_vectors.proofs.next_plan.Statement.{statement}
-use Rattle.plan_vectors.proofs.next_plan.Tie as tie
+use Rattle.write_vectors.proofs.run_cases.Statement.{statement}
+use Rattle.write_vectors.proofs.run_cases.Tie as tie
 
 abbrev Inv-loop : tie.InvT-loop
-Inv-loop plan₀ left₀ plan left = left ≤ 255
+Inv-loop plan left₀ left = left ≤ 65535
 
 abbrev μ-loop : tie.MeasureT-loop
-μ-loop plan₀ left₀ plan left = left
+μ-loop plan left₀ left = left
 
-pub next-plan-spec : {M : Type 1} → statement M
-next-plan-spec =
+pub run-cases-spec : {M : Type 1} → statement M
+run-cases-spec =
     tie.close
     (tie.spec
     Inv-loop
     μ-loop
     (λ c κs. search needs)
     (λ c. search needs)
-    (λ c κs. search needs)
-    (λ c κs. search needs)
     (λ c κs. search needs)
     (λ c. search needs)
     (λ c. search needs)

@@ -1,0 +1,23 @@
+// How long texts and blocks are.
+use plan::limits::MOST_N;
+use plan::limits::ROW;
+
+// The longest text of a block has less than 7,000 bytes.
+pub(crate) const TEXT_ROOM: usize = 8192;
+
+// The longest section: n, the pivots, the pieces, and what inverse quantization takes (docs/RULES.md, "Section").
+const SECTION_ROOM: usize = 1
+    + 2 * ((MOST_N as usize) + 2)
+    + ((MOST_N as usize) + 1) * (2 + 5 * ROW)
+    + 17;
+
+// Header, sections, trailer.
+pub(crate) const BLOCK_ROOM: usize = 24 + 3 * SECTION_ROOM + 12;
+
+// The first n bytes; none where there are not so many.
+pub(crate) fn first(bytes: &[u8], n: usize) -> &[u8] {
+    if n <= bytes.len() {
+        return &bytes[..n];
+    }
+    &bytes[..0]
+}

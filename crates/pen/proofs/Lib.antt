@@ -1,0 +1,3 @@
+pub mod Putting
+pub mod Distances
+pub mod Inking

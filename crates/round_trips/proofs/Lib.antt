@@ -1,0 +1,9 @@
+pub mod Digits
+pub mod Mirrors
+pub mod Places
+pub mod Parts
+pub mod Sections
+pub mod Frames
+pub mod Back
+pub mod Forth
+pub mod Trips

@@ -1,0 +1,12 @@
+// Reading and writing undo each other. The functions compute nothing: their promises are the theorems.
+ghost use Rattle.round_trips.specs.RoundTrips.{WrittenIsRead, ReadIsWritten};
+
+// A plan that was written is what reading gives back.
+pub fn written_is_read()
+    ensures { λ _. ⌜ WrittenIsRead ⌝ }
+{}
+
+// A block that was read is what writing its plan gives back, byte for byte from its header on.
+pub fn read_is_written()
+    ensures { λ _. ⌜ ReadIsWritten ⌝ }
+{}

@@ -1,0 +1,33 @@
+-- A section of the composing block as bytes (the house layout), field by field from the page.
+use mathlib.Core.List.{List, _++_}
+use Prim.Native.Nat.{ℕ}
+use lib.IntN.{pos}
+use lib.ListN.{getD}
+use Rattle.plan.specs.declared.Piece.{Piece}
+use Rattle.plan.specs.declared.Nlq.{Nlq}
+use Rattle.plan.specs.declared.Component.{Component}
+use Rattle.plan.specs.Rule7.{pivots-used, pieces-used, coefficients-used, no-piece}
+use Rattle.pen.specs.Bytes.{bytes-of, number-bytes, in-turn}
+
+-- a piece: mapping_idc, poly_order_minus1, then poly_order_minus1 + 2 coefficients
+unfoldable pub piece-bytes : ℕ → Piece → List ℕ
+piece-bytes d q =
+    bytes-of 1 (q .idc)
+    ++ (bytes-of 1 (q .order)
+    ++ in-turn (coefficients-used (q .order)) (λ i. number-bytes d (getD (q .row) i (pos 0))))
+
+-- nlq_offset, then hdr_in_max, slope and threshold
+unfoldable pub nlq-bytes : ℕ → Nlq → List ℕ
+nlq-bytes d q =
+    bytes-of 2 (q .offset)
+    ++ (number-bytes d (pos (q .maximum))
+    ++ (number-bytes d (pos (q .slope))
+    ++ number-bytes d (pos (q .threshold))))
+
+-- a section: num_pivots_minus2, n + 2 pred_pivot_value, n + 1 pieces, and the residual's numbers
+unfoldable pub section-bytes : ℕ → Component → List ℕ
+section-bytes d c =
+    bytes-of 1 (c .n)
+    ++ (in-turn (pivots-used (c .n)) (λ i. bytes-of 2 (getD (c .preds) i 0))
+    ++ (in-turn (pieces-used (c .n)) (λ p. piece-bytes d (getD (c .pieces) p no-piece))
+    ++ nlq-bytes d (c .nlq)))

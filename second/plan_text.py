@@ -1,0 +1,209 @@
+"""A plan as text, from docs/TEXT.md: the text of a plan, and a text made to a block or refused with its line."""
+
+import re
+import struct
+from collections import namedtuple
+
+import block
+import limits
+
+# (name, bytes, zero bytes after it) of the header's fields.
+HEADER = (
+    ("ccm_profile", 1, 0), ("ccm_level", 1, 0), ("coefficient_log2_denom", 1, 0),
+    ("BL_bit_depth_minus8", 1, 0), ("EL_bit_depth_minus8", 1, 0), ("hdr_bit_depth_minus8", 1, 0),
+    ("disable_residual_flag", 1, 1), ("W/2", 2, 0), ("H/2", 2, 0),
+    ("max_display_mastering_luminance", 2, 2), ("min_display_mastering_luminance", 4, 4))
+NLQ_NUMBERS = ("hdr_in_max", "linear_deadzone_slope", "linear_deadzone_threshold")
+
+WORD, SIGNED_WORD = re.compile(rb" ([0-9]+)"), re.compile(rb" (-?[0-9]+)")
+NUMBER = re.compile("0|-?[1-9][0-9]*")
+
+# A block's bytes, and the line of the text for each field: {name of the header: line}, {first byte: line}.
+Made = namedtuple("Made", "data header_lines lines")
+
+
+class Fault(Exception):
+    """Why a text is refused, and on which line."""
+
+    def __init__(self, line, words):
+        super().__init__(words)
+        self.line = line
+
+
+# The text of a plan ---------------------------------------------------------
+
+def fixed_point(name, number, d):
+    return "%s %d %d" % (name, number >> d, number % (1 << d))
+
+
+def section_lines(plan, cmp):
+    d, n = plan.coefficient_log2_denom, plan.num_pivots_minus2[cmp]
+    yield "component %d" % cmp
+    yield "num_pivots_minus2 %d" % n
+    yield "pred_pivot_value " + " ".join(str(value) for value in plan.pred_pivot_value[cmp][:limits.pivots(n)])
+    for piece in range(limits.pieces(n)):
+        order = plan.poly_order_minus1[cmp][piece]
+        yield "piece %d" % piece
+        yield "mapping_idc %d" % plan.mapping_idc[cmp][piece]
+        yield "poly_order_minus1 %d" % order
+        for number in plan.fp_poly_coef[cmp][piece][:limits.coefs(order)]:
+            yield fixed_point("poly_coef", number, d)
+    yield "nlq_offset %d" % plan.nlq_offset[cmp]
+    for name in NLQ_NUMBERS:
+        yield fixed_point(name, getattr(plan, "fp_" + name)[cmp], d)
+
+
+def plan_lines(plan, version=limits.VERSIONS[0]):
+    yield "version %d" % version
+    for name, _, _ in HEADER:
+        yield "%s %d" % (name, getattr(plan, {"W/2": "half_width", "H/2": "half_height"}.get(name, name)))
+    for cmp in range(3):
+        yield from section_lines(plan, cmp)
+
+
+def text_of(plan, version=limits.VERSIONS[0]):
+    return "".join(line + "\n" for line in plan_lines(plan, version)).encode("ascii")
+
+
+# A text to a block ----------------------------------------------------------
+
+class Stopped(Exception):
+    """Nobody can say how many lines follow."""
+
+
+class Reader:
+    """A text, read from its first byte on."""
+
+    def __init__(self, text):
+        self.text, self.at, self.line, self.name = text, 0, 0, None
+        self.data, self.lines = bytearray(), {}
+
+    def refuse(self, words, *given):
+        raise Fault(self.line, words % given)
+
+    def begin(self, name):
+        self.line += 1
+        if not self.text.startswith(name.encode("ascii"), self.at):
+            self.refuse("%s is expected", name)
+        self.at += len(name)
+        self.name = name
+
+    def word(self, signed=False):
+        found = (SIGNED_WORD if signed else WORD).match(self.text, self.at)
+        if found is None:
+            self.refuse("one space and a number of %s are expected", self.name)
+        self.at = found.end()
+        word = found[1].decode("ascii")
+        if not NUMBER.fullmatch(word):
+            self.refuse("a number of %s begins with 0", self.name)
+        return word
+
+    def number(self, size, signed=False):
+        word = self.word(signed)
+        value = int(word[:20])                          # as large as that fits nowhere
+        low, high = (-128, 127) if signed else (0, 256 ** size - 1)
+        if not low <= value <= high:
+            self.refuse("%s does not fit %s, which holds %d to %d", word, self.name, low, high)
+        return value
+
+    def field(self, size, signed=False):
+        """A number that goes into the block."""
+        value = self.number(size, signed)
+        self.lines[len(self.data)] = self.line
+        self.data += value.to_bytes(size, "big", signed=signed)
+        return value
+
+    def end_line(self):
+        if self.text[self.at:self.at + 1] != b"\n":
+            self.refuse("the end of the line is expected")
+        self.at += 1
+
+    def end(self):
+        self.line += 1
+        if self.at != len(self.text):
+            self.refuse("the end of the text is expected")
+
+    def counted(self, name, k):
+        """A line with the number of a component or of a piece."""
+        self.begin(name)
+        if self.word() != str(k):
+            self.refuse("%s %d is expected", name, k)
+        self.end_line()
+
+    def only(self, name, size):
+        """A line with one number."""
+        self.begin(name)
+        value = self.field(size)
+        self.end_line()
+        return value
+
+    def count(self, name, allowed):
+        """A line with a number that says how many others follow."""
+        self.begin(name)
+        value = self.field(1)
+        if value not in allowed:
+            raise Stopped
+        self.end_line()
+        return value
+
+    def fixed_point(self, name, signed=False):
+        self.begin(name)
+        self.field(1, signed)
+        self.field(4)
+        self.end_line()
+
+
+def read_section(reader, cmp):
+    n = reader.count("num_pivots_minus2", limits.N)
+    reader.begin("pred_pivot_value")
+    for _ in range(limits.pivots(n)):
+        reader.field(2)
+    reader.end_line()
+    for piece in range(limits.pieces(n)):
+        reader.counted("piece", piece)
+        reader.only("mapping_idc", 1)
+        for _ in range(limits.coefs(reader.count("poly_order_minus1", limits.ORDERS))):
+            reader.fixed_point("poly_coef", signed=True)
+    reader.only("nlq_offset", 2)
+    for name in NLQ_NUMBERS:
+        reader.fixed_point(name)
+
+
+def read_text(text):
+    """The text's block, whatever its ranges; Fault where its form is wrong."""
+    reader = Reader(text)
+    reader.begin("version")
+    version = reader.number(2)
+    reader.end_line()
+    header_lines = {}
+    for name, size, zeros in HEADER:
+        reader.only(name, size)
+        reader.data += bytes(zeros)
+        header_lines[name] = reader.line
+    begins = []
+    try:
+        for cmp in range(3):
+            reader.counted("component", cmp)
+            begins.append(len(reader.data))
+            read_section(reader, cmp)
+        reader.end()
+    except Stopped:
+        while len(begins) < 3:
+            begins.append(len(reader.data))
+            reader.data.append(0)
+    data = bytes(reader.data)
+    whole = block.assemble(data[:begins[0]], [data[begins[0]:begins[1]], data[begins[1]:begins[2]], data[begins[2]:]])
+    return Made(whole[:-4] + struct.pack(">HH", version, 0), header_lines, reader.lines)
+
+
+def circle(data):
+    """(the text of a block that is read, the block made of it, the text of that)."""
+    text = text_of_block(data)
+    made = read_text(text).data
+    return text, made, text_of_block(made)
+
+
+def text_of_block(data):
+    number, plan = block.read(data)
+    assert number == 0, number
+    return text_of(plan, *struct.unpack(">H", data[-4:-2]))

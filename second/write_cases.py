@@ -1,0 +1,224 @@
+"""Writing cases for write_vectors: slices, versions, every place at its ends and beyond, shapes, fractions, blocks.
+
+A case is a block's plan with some places changed, a version, the slice's length and what it holds before. It is made
+with the number that it is to show, and writing has to give it. SHOWS says which wrong writers each kind of case tells
+from the right one; selftest.py builds them (wrong_writers.py) and holds the cases to it.
+"""
+
+from collections import namedtuple
+
+import block
+import limits
+import writer
+from block_cases import all_cases as all_block_cases
+from block_cases import data_of, longest_plan, small_plan
+from composer import Plan
+from generator import Generator
+from jobs import breaks_rule_7
+from limits import LONGEST_BLOCK, N, SHORTEST_BLOCK, VERSIONS, denominators
+from places import changed
+from plan_cases import base_plan, header_cases, place_cases, random_cases
+from sample_cases import random_plan
+
+Group = namedtuple("Group", "data cases")       # data: a block, from which the plan is read
+Case = namedtuple("Case", "kind edits version size first")      # of the slice: its length, what it begins with
+
+LARGEST_BLOCK = 4096        # of those that are read, with the bytes before their header
+LARGEST_SLICE = LONGEST_BLOCK + 240
+ALL_VERSIONS = (0, 1, 2, 3, 255, 256, 257, 513, 32769, 65535)
+
+SHOWS = {
+    "slice": (
+        "exact fit refused", "12 after a part was written", "lengths by their low bytes", "the slice's length answered",
+        "written at the slice's end", "one byte after the block overwritten", "the bytes after the block cleared",
+        "the slice's last byte overwritten", "the last byte left", "the first byte left", "the header's zeros left",
+        "zeros only", "distances to the trailer's end", "A without the header", "distances in the other order",
+        "distances of one byte", "version 0 written", "the longest block's length"),
+    "version": (
+        "every version taken", "a version by its low byte", "12 before 7", "12 for 7", "7 after the slice was cleared",
+        "a length though the version is refused"),
+    "good place": (
+        "little endian", "slope and threshold swapped", "hdr_in_max and slope swapped", "Cb and Cr swapped",
+        "pivots in place of their differences", "no profile", "no d", "no bl", "no el", "no hdr", "no flag",
+        "no half_width", "no half_height", "no lum_max", "no lum_min"),
+    "bad place": (
+        "unused places not tested", "the method not tested", "the darkest luminance not tested", "12 before 7",
+        "12 for 7", "7 after the slice was cleared"),
+    "shape": (
+        "the last piece lost", "three coefficients always", "the longest block's length", "distances of one byte"),
+    "fraction": (
+        "a fraction with the integer part's sign", "a fraction of 32 bits", "the integer part's sign lost",
+        "hdr_in_max's integer part lost", "the slope's integer part lost", "the threshold's integer part lost"),
+    "several places": ("little endian", "unused places not tested"),
+    "random plan": (
+        "a fraction with the integer part's sign", "the last piece lost", "three coefficients always", "little endian"),
+    "as read": (
+        "a fraction with the integer part's sign", "slope and threshold swapped", "little endian",
+        "distances to the trailer's end", "the last byte left", "zeros only"),
+    "plan of zeros": ("12 before 7", "7 after the slice was cleared"),
+}
+
+
+class Groups:
+    """Collects cases under the block that they begin with, each with another first byte of the slice."""
+
+    def __init__(self):
+        self.all = []
+        self.made = 0
+
+    def begin(self, data):
+        """A block whose cases come next; one that is refused gives the plan of zeros."""
+        self.plan = plan_of(data)
+        self.all.append(Group(data, []))
+
+    def add(self, kind, number, edits, version, size):
+        """A case that is to show this number."""
+        self.made += 1
+        case = Case(kind, edits, version, size, 41 * self.made % 256)
+        found, _, _ = writer.write_into(changed(self.plan, edits), version, bytes(size))
+        assert found == number, "%s: %d in place of %d for %s" % (kind, found, number, edits)
+        self.all[-1].cases.append(case)
+
+    def add_fitting(self, kind, edits, spare):
+        """A plan that can be written: slices of its block's length and so many bytes to spare, or too few."""
+        size = writer.length(changed(self.plan, edits), VERSIONS[0])
+        for more in spare:
+            self.add(kind, 0 if more >= 0 else 12, edits, VERSIONS[0], size + more)
+
+
+def plan_of(data):
+    number, plan = block.read(data)
+    return plan if number == 0 else Plan()
+
+
+def slice_cases(groups, generator):
+    """Every length up to the shortest block's, and those about the longest one's and its low byte."""
+    groups.begin(block.write(small_plan(10, denominators(10)[0])))
+    for size in (*range(SHORTEST_BLOCK + 3), SHORTEST_BLOCK + 256, LONGEST_BLOCK, LARGEST_SLICE):
+        groups.add("slice", 0 if size >= SHORTEST_BLOCK else 12, [], VERSIONS[0], size)
+    low = LONGEST_BLOCK % 256
+    for depth, d in ((10, denominators(10)[-1]), (8, denominators(8)[0])):
+        groups.begin(block.write(longest_plan(depth, d, generator)))
+        for size in (0, 1, 12, 24, 36, SHORTEST_BLOCK, low - 1, low, low + 1, 512 + low, LONGEST_BLOCK - 12,
+                     LONGEST_BLOCK - 1, LONGEST_BLOCK, LONGEST_BLOCK + 1, 1024, LARGEST_SLICE):
+            groups.add("slice", 0 if size >= LONGEST_BLOCK else 12, [], VERSIONS[0], size)
+
+
+def version_cases(groups, generator):
+    """A version that is none is refused 7, also where the slice is too short."""
+    for plan in (small_plan(8, denominators(8)[0]), longest_plan(10, 23, generator)):
+        data = block.write(plan)
+        groups.begin(data)
+        for version in ALL_VERSIONS:
+            for size in (0, len(data) - 1, len(data), len(data) + 1):
+                number = 7 if version not in VERSIONS else 12 if size < len(data) else 0
+                groups.add("version", number, [], version, size)
+
+
+def place_groups(groups, generator):
+    """Every place by itself: at its ends it is written, beyond them it is 7 whatever the slice's length is."""
+    for depth, d, sizes in ((10, 23, (0, 3, N[-1])), (8, denominators(8)[-1], (N[-1], 0, 7))):
+        plan = base_plan(depth, d, sizes, generator)
+        data = block.write(plan)
+        groups.begin(data)
+        for at, case in enumerate(header_cases(plan) + place_cases(plan)):
+            if breaks_rule_7(changed(plan, case.edits)):
+                size = (0, len(data) - 1, len(data), len(data) + 9)[at % 4]
+                groups.add("bad place", 7, case.edits, VERSIONS[0], size)
+            else:
+                groups.add_fitting("good place", case.edits, ((0,), (1,), (17,), (-1, 0))[at % 4])
+
+
+def shape_cases(groups, generator):
+    """Every number of pieces in every section, orders in turn; then all of one order."""
+    for n in N:
+        groups.begin(block.write(base_plan(10, 24, (n, (n + 5) % len(N), (n + 10) % len(N)), generator)))
+        groups.add_fitting("shape", [], (-1, 0, 2))
+        groups.add_fitting("shape", same_orders(groups.plan, 1), (0,))
+        groups.add_fitting("shape", same_orders(groups.plan, 0), (0,))
+
+
+def same_orders(plan, order):
+    """Edits that give every used piece this order."""
+    edits = []
+    for cmp in range(3):
+        for piece in range(limits.pieces(plan.num_pivots_minus2[cmp])):
+            edits.append((("poly_order_minus1", cmp, piece), order))
+            if order == 0:
+                edits.append((("fp_poly_coef", cmp, piece, 2), 0))
+    return edits
+
+
+def coefficients_to_write(d):
+    """Below zero with and without a fraction, both ends, and the least beside whole numbers."""
+    one, allowed = 1 << d, limits.coefficients(d)
+    return (allowed[0], allowed[0] + 1, -one, -one + 1, -one + 32767 % one, -one // 2, -1, 0, 1, one - 1, one,
+            allowed[-1] - one + 1, allowed[-1])
+
+
+def fraction_cases(groups):
+    """Each such number in each place of a row, and the ends of the numbers after the pieces, for several d."""
+    for depth, d in ((8, 13), (10, 15), (10, 16), (8, 20), (10, 23), (8, 31), (10, 32)):
+        groups.begin(block.write(small_plan(depth, d, order=2)))
+        for at, z in enumerate(coefficients_to_write(d)):
+            for i in range(3):
+                groups.add_fitting("fraction", [(("fp_poly_coef", (at + i) % 3, 0, i), z)], (at % 2,))
+        numbers = limits.nlq_numbers(d)
+        for at, v in enumerate((0, 1, (1 << d) - 1, 1 << d, (1 << d) + 1, numbers[-1])):
+            for k, name in enumerate(("fp_hdr_in_max", "fp_linear_deadzone_slope", "fp_linear_deadzone_threshold")):
+                groups.add_fitting("fraction", [((name, (at + k) % 3), v)], (at % 2,))
+
+
+def several_places(groups, generator):
+    """Good single edits together, and then any."""
+    plan = base_plan(10, 25, (2, 6, 1), generator)
+    groups.begin(block.write(plan))
+    singles = place_cases(plan)
+    good = [case for case in singles if not breaks_rule_7(changed(plan, case.edits))]
+    for case in random_cases(plan, good, generator, 60) + random_cases(plan, singles, generator, 60):
+        if breaks_rule_7(changed(plan, case.edits)):
+            groups.add("several places", 7, case.edits, VERSIONS[0], generator.below(SHORTEST_BLOCK))
+        else:
+            groups.add_fitting("several places", case.edits, (generator.between(-1, 3),))
+
+
+def random_plans(groups, generator, number):
+    for _ in range(number):
+        groups.begin(block.write(random_plan(((2, 2), (1920, 1080), (3840, 2160)), generator)))
+        groups.add_fitting("random plan", [], (-1, 0, 1 + generator.below(100)))
+
+
+def blocks_as_read(groups):
+    """Every block that block_vectors accepts, with the bytes before its header."""
+    bases, cases = all_block_cases()
+    accepted = {}
+    for case in cases:
+        data = data_of(bases, case)
+        if data not in accepted and block.read(data)[0] == 0:
+            accepted[data] = True
+    for at, data in enumerate(accepted):
+        groups.begin(data)
+        groups.add_fitting("as read", [], (at % 3,))
+
+
+def zero_cases(groups):
+    """The plan that a refused block gives."""
+    groups.begin(b"")
+    for size in (0, SHORTEST_BLOCK - 1, SHORTEST_BLOCK, LONGEST_BLOCK):
+        for version in (*VERSIONS, 2):
+            groups.add("plan of zeros", 7, [], version, size)
+
+
+def all_groups():
+    groups = Groups()
+    generator = Generator(501)
+    slice_cases(groups, generator)
+    version_cases(groups, generator)
+    place_groups(groups, generator)
+    shape_cases(groups, generator)
+    fraction_cases(groups)
+    several_places(groups, generator)
+    random_plans(groups, generator, 60)
+    blocks_as_read(groups)
+    zero_cases(groups)
+    return groups.all

@@ -1,0 +1,298 @@
+"""Writers with one mistake each, by name: what the cases of write_vectors have to tell from the right one.
+
+write_cases.py says which kind of case shows which of them, and selftest.py holds it to that.
+"""
+
+import struct
+from collections import namedtuple
+
+import block
+import limits
+import writer
+from block_cases import HEADER_FIELDS, Base
+from jobs import breaks_rule_7
+from limits import HEADER_BYTES, TRAILER_BYTES, VERSIONS
+from places import changed
+
+# A writer is its two calls; the right one is the module writer.
+Writer = namedtuple("Writer", "write_into length")
+
+
+def lending(bytes_of, breaks=breaks_rule_7):
+    """A writer of other bytes, or with another rule 7; its length follows from both."""
+    def length(plan, version):
+        return 0 if version not in VERSIONS or breaks(plan) else len(bytes_of(plan, version))
+
+    def write_into(plan, version, out):
+        size = length(plan, version)
+        if size == 0:
+            return 7, 0, bytes(out)
+        if len(out) < size:
+            return 12, 0, bytes(out)
+        return 0, size, bytes_of(plan, version) + bytes(out[size:])
+    return Writer(write_into, length)
+
+
+# The block's bytes ----------------------------------------------------------
+
+def other_plan(change):
+    """The block of another plan, which `change` gives."""
+    return lending(lambda plan, version: block.write(change(plan), version))
+
+
+def swapped(*names):
+    """Two fields of each component."""
+    def change(plan):
+        edits = []
+        for cmp in range(3):
+            values = [getattr(plan, name)[cmp] for name in names]
+            edits += [((name, cmp), value) for name, value in zip(names, reversed(values))]
+        return changed(plan, edits)
+    return other_plan(change)
+
+
+def pivots_summed(plan):
+    """The pivots themselves, where the block has their differences."""
+    return changed(plan, [(("pred_pivot_value", cmp, i), sum(plan.pred_pivot_value[cmp][:i + 1]))
+                          for cmp in range(3) for i in range(limits.pivots(plan.num_pivots_minus2[cmp]))])
+
+
+def other_sections(change):
+    """The block of other sections, which `change` gives; the trailer fits them."""
+    def bytes_of(plan, version):
+        sections = [block.section_bytes(plan, cmp) for cmp in range(3)]
+        return block.assemble(block.header_bytes(plan), change(plan, sections), version)
+    return lending(bytes_of)
+
+
+def chroma_swapped(plan, sections):
+    y, cb, cr = sections
+    return [y, cr, cb]
+
+
+def last_piece_lost(plan, sections):
+    """n pieces where a section has n + 1; one of a single piece is as it should be."""
+    def cut(cmp):
+        n, section = plan.num_pivots_minus2[cmp], sections[cmp]
+        last = 2 + 5 * limits.coefs(plan.poly_order_minus1[cmp][n]) if n > 0 else 0
+        after = len(section) - 2 - 3 * 5
+        return section[:after - last] + section[after:]
+    return [cut(cmp) for cmp in range(3)]
+
+
+def three_coefficients(plan, sections):
+    """The third coefficient of every piece, used or not."""
+    full = changed(plan, [(("poly_order_minus1", cmp, piece), 1) for cmp in range(3)
+                          for piece in range(limits.pieces(plan.num_pivots_minus2[cmp]))])
+    return [block.section_bytes(full, cmp) for cmp in range(3)]
+
+
+def other_fields(change):
+    """The block's bytes after `change`, which is given them, the plan and where each field is."""
+    def bytes_of(plan, version):
+        data = bytearray(block.write(plan, version))
+        change(plan, data, Base(0, data, plan).fields)
+        return bytes(data)
+    return lending(bytes_of)
+
+
+def get(data, field, signed=False):
+    return int.from_bytes(data[field.offset:field.offset + field.size], "big", signed=signed)
+
+
+def put(data, field, value):
+    data[field.offset:field.offset + field.size] = (value % 256 ** field.size).to_bytes(field.size, "big")
+
+
+def little_endian(plan, data, fields):
+    for field in fields.values():
+        put(data, field, int.from_bytes(data[field.offset:field.offset + field.size], "little"))
+
+
+def zeros_only(plan, data, fields):
+    data[:] = bytes(len(data))
+
+
+def lost(*ends):
+    """The fields whose names end so are written as 0."""
+    def change(plan, data, fields):
+        for name in fields:
+            if name.endswith(ends):
+                put(data, fields[name], 0)
+    return other_fields(change)
+
+
+def fixed_point(fields):
+    """(integer part, fraction) of every number that has both."""
+    return [(fields[name], fields[name[:-len("int")] + "fraction"]) for name in fields if name.endswith("_int")]
+
+
+def toward_zero(plan, data, fields):
+    """-1.5 as -1 and 0.5, the fraction with the integer part's sign, where it is -2 and 0.5."""
+    for integer, fraction in fixed_point(fields):
+        whole, rest = get(data, integer, signed=True), get(data, fraction)
+        if whole < 0 < rest:
+            put(data, integer, whole + 1)
+            put(data, fraction, (1 << plan.coefficient_log2_denom) - rest)
+
+
+def fraction_of_32(plan, data, fields):
+    """As if every fraction had 32 bits behind the point."""
+    for _, fraction in fixed_point(fields):
+        put(data, fraction, get(data, fraction) << (32 - plan.coefficient_log2_denom))
+
+
+def sign_lost(plan, data, fields):
+    for integer, _ in fixed_point(fields):
+        put(data, integer, get(data, integer) % 128)
+
+
+def distances(change):
+    """The trailer's four distances are those that `change` gives."""
+    def change_bytes(plan, data, fields):
+        at = len(data) - TRAILER_BYTES
+        struct.pack_into(">4H", data, at, *change(*struct.unpack_from(">4H", data, at)))
+    return other_fields(change_bytes)
+
+
+# Where it is written, and what is answered ----------------------------------
+
+def but(change):
+    """The right writer, but for what `change` makes of its answer."""
+    return Writer(lambda plan, version, out: change(plan, version, out, *writer.write_into(plan, version, out)),
+                  writer.length)
+
+
+def left_alone(places):
+    """Some bytes of the block stay as they were: `places` of its length."""
+    def change(plan, version, out, number, size, after):
+        kept = bytearray(after)
+        for at in places(size) if number == 0 else ():
+            kept[at] = out[at]
+        return number, size, bytes(kept)
+    return but(change)
+
+
+def after_the_block(change):
+    """What stands after the block is what `change` gives."""
+    def change_rest(plan, version, out, number, size, after):
+        return number, size, after[:size] + change(after[size:]) if number == 0 and after[size:] else after
+    return but(change_rest)
+
+
+def at_the_end(plan, version, out, number, size, after):
+    """The block's last byte is the slice's, as where one is read."""
+    return number, size, bytes(out[size:]) + after[:size]
+
+
+def whole_slice(plan, version, out, number, size, after):
+    return number, len(out) if number == 0 else 0, after
+
+
+def exact_fit_refused(plan, version, out, number, size, after):
+    return (12, 0, bytes(out)) if number == 0 and len(out) == size else (number, size, after)
+
+
+def low_bytes(plan, version, out, number, size, after):
+    """12 by the low bytes of both lengths too."""
+    return (12, 0, bytes(out)) if number == 0 and len(out) % 256 < size % 256 else (number, size, after)
+
+
+def twelve_first(plan, version, out, number, size, after):
+    """12 by the shortest block, before the plan is looked at."""
+    return (12 if len(out) < limits.SHORTEST_BLOCK else number), size, after
+
+
+def twelve_for_seven(plan, version, out, number, size, after):
+    return 12 if number == 7 else number, size, after
+
+
+def short_filled(plan, version, out, number, size, after):
+    return number, size, block.write(plan, version)[:len(out)] if number == 12 else after
+
+
+def bad_cleared(plan, version, out, number, size, after):
+    return number, size, bytes(len(out)) if number == 7 else after
+
+
+def versions_as(seen):
+    """Every version is taken for `seen` of it."""
+    return Writer(lambda plan, version, out: writer.write_into(plan, seen(version), out),
+                  lambda plan, version: writer.length(plan, seen(version)))
+
+
+# Rule 7 ---------------------------------------------------------------------
+
+def forgiving(mended):
+    """Rule 7 tests what `mended` makes of the plan, and that is written."""
+    return lending(lambda plan, version: block.write(mended(plan), version), lambda plan: breaks_rule_7(mended(plan)))
+
+
+def unused_cleared(plan):
+    """The plan with every place 0 that its counts say is not used; a plan of wrong counts as it is."""
+    edits = []
+    for cmp in range(3):
+        n = plan.num_pivots_minus2[cmp]
+        edits += [(("pred_pivot_value", cmp, i), 0) for i in range(limits.pivots(n), limits.PIVOT_PLACES)]
+        for piece in range(limits.PIECE_PLACES):
+            used = limits.coefs(plan.poly_order_minus1[cmp][piece]) if piece < limits.pieces(n) else 0
+            edits += [((name, cmp, piece), 0) for name in ("mapping_idc", "poly_order_minus1") if used == 0]
+            edits += [(("fp_poly_coef", cmp, piece, i), 0) for i in range(used, limits.COEF_PLACES)]
+    return changed(plan, edits)
+
+
+def methods_cleared(plan):
+    return changed(plan, [(("mapping_idc", cmp, piece), 0) for cmp in range(3) for piece in range(limits.PIECE_PLACES)
+                          if plan.mapping_idc[cmp][piece] == limits.MMR])
+
+
+def luminance_cleared(plan):
+    return changed(plan, [(("min_display_mastering_luminance",), 0)])
+
+
+WRONG = {
+    "a fraction with the integer part's sign": other_fields(toward_zero),
+    "a fraction of 32 bits": other_fields(fraction_of_32),
+    "the integer part's sign lost": other_fields(sign_lost),
+    "hdr_in_max's integer part lost": lost("max_int"),
+    "the slope's integer part lost": lost("slope_int"),
+    "the threshold's integer part lost": lost("threshold_int"),
+    "slope and threshold swapped": swapped("fp_linear_deadzone_slope", "fp_linear_deadzone_threshold"),
+    "hdr_in_max and slope swapped": swapped("fp_hdr_in_max", "fp_linear_deadzone_slope"),
+    "Cb and Cr swapped": other_sections(chroma_swapped),
+    "the last piece lost": other_sections(last_piece_lost),
+    "three coefficients always": other_sections(three_coefficients),
+    "pivots in place of their differences": other_plan(pivots_summed),
+    "little endian": other_fields(little_endian),
+    "zeros only": other_fields(zeros_only),
+    **{"no " + field.name: lost(field.name) for field in HEADER_FIELDS
+       if field.name != "level" and not field.name.startswith("zero")},
+    "distances to the trailer's end": distances(lambda *all: [x + TRAILER_BYTES for x in all]),
+    "A without the header": distances(lambda A, *rest: [A - HEADER_BYTES, *rest]),
+    "distances in the other order": distances(lambda A, D0, D1, D2: [A, D2, D1, D0]),
+    "distances of one byte": distances(lambda *all: [x % 256 for x in all]),
+    "version 0 written": lost("version"),
+    "the last byte left": left_alone(lambda size: [size - 1]),
+    "the first byte left": left_alone(lambda size: [0]),
+    "the header's zeros left": left_alone(lambda size: [7, 14, 15, 20, 21, 22, 23]),
+    "one byte after the block overwritten": after_the_block(lambda rest: b"\0" + rest[1:]),
+    "the bytes after the block cleared": after_the_block(lambda rest: bytes(len(rest))),
+    "the slice's last byte overwritten": after_the_block(lambda rest: rest[:-1] + b"\0"),
+    "written at the slice's end": but(at_the_end),
+    "the slice's length answered": but(whole_slice),
+    "exact fit refused": but(exact_fit_refused),
+    "lengths by their low bytes": but(low_bytes),
+    "12 before 7": but(twelve_first),
+    "12 for 7": but(twelve_for_seven),
+    "12 after a part was written": but(short_filled),
+    "7 after the slice was cleared": but(bad_cleared),
+    "every version taken": versions_as(lambda version: VERSIONS[0]),
+    "a version by its low byte": versions_as(lambda version: version % 256),
+    "unused places not tested": forgiving(unused_cleared),
+    "the method not tested": forgiving(methods_cleared),
+    "the darkest luminance not tested": forgiving(luminance_cleared),
+    "a length though the version is refused": Writer(
+        writer.write_into, lambda plan, version: writer.length(plan, VERSIONS[0])),
+    "the longest block's length": Writer(
+        writer.write_into, lambda plan, version: limits.LONGEST_BLOCK if writer.length(plan, version) else 0),
+}
