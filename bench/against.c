@@ -1,9 +1,10 @@
 /* What `against` runs: the proved code before a change and after it. Prints tables in Markdown: nanoseconds a sample
    and ratios, at the end the worst and the median ratio. Exits 1 where outputs differ. */
+#include "blocks.h"
 #include "rows.h"
 #include <stdio.h>
 
-enum { RUNS = 61, ROWS = 72 };
+enum { RUNS = 61, ROWS = 72 + 4 };
 
 #define WAY(name, job)                                                                                    \
     static uint8_t name(const Plan *plan, size_t first, size_t count)                                     \
@@ -18,17 +19,43 @@ static double ratios[ROWS];
 static int rows;
 
 /* The ratio is the median of the runs' own ratios: what slows the machine for a while slows both sides of a run. */
-static void before_and_after(int pieces, int enhanced, size_t step)
+static void end_row(double times[2][RUNS])
 {
-    Plan plan = plan_of(pieces, enhanced);
-    double times[2][RUNS], ratio[RUNS];
-    compare(ways, 2, &plan, step);
-    measure(ways, 2, RUNS, &plan, step, times);
+    double ratio[RUNS];
     for (int r = 0; r < RUNS; r++)
         ratio[r] = times[1][r] / times[0][r];
     ratios[rows] = median(ratio, RUNS);
     printf("| %.2f | %.2f | %.3f |\n", median(times[0], RUNS), median(times[1], RUNS), ratios[rows]);
     rows++;
+}
+
+static void before_and_after(int pieces, int enhanced, size_t step)
+{
+    Plan plan = plan_of(pieces, enhanced);
+    double times[2][RUNS];
+    compare(ways, 2, &plan, step);
+    measure(ways, 2, RUNS, &plan, step, times);
+    end_row(times);
+}
+
+static WRITE(write_before)
+{
+    return speed_write_before(*plan, version, out, out_len);
+}
+
+static WRITE(write_after)
+{
+    return speed_write(*plan, version, out, out_len);
+}
+
+static void block_row(const char *name, const Plan *plan, uint16_t version, size_t length)
+{
+    static Writer *const writers[] = {write_before, write_after};
+    double times[2][RUNS];
+    compare_writers(writers, 2, plan, version, length);
+    measure_writers(writers, 2, RUNS, plan, version, times);
+    printf("| %s | %d | %zu ", name, version, length);
+    end_row(times);
 }
 
 int main(void)
@@ -42,6 +69,10 @@ int main(void)
         each_row(half[k][0], half[k][1], before_and_after);
         printf("\n");
     }
+    printf("Nanoseconds a block that is written:\n\n"
+           "| block | version | bytes | before | after | after / before |\n|---|---|---|---|---|---|\n");
+    each_block(block_row);
+    printf("\n");
     double middle = median(ratios, rows);
     printf("after / before: the worst %.3f, the median %.3f\n", ratios[rows - 1], middle);
     return 0;

@@ -1,32 +1,46 @@
 #include "blocks.h"
-#include "block.h"
 #include "measure.h"
 #include <stdio.h>
 #include <stdlib.h>
 #include <string.h>
 
-enum { RUNS = 9, ROUNDS = 20000, ROOM = 1280, WRITERS = 3 };
+enum { ROUNDS = 20000, ROOM = 1280 };
 
-/* writes version 1 */
-typedef uint8_t Writer(const Plan *plan, uint8_t *out, size_t out_len);
-
-static uint8_t proved(const Plan *plan, uint8_t *out, size_t out_len)
-{
-    return speed_write(*plan, 1, out, out_len);
-}
-
-static uint8_t by_gcc(const Plan *plan, uint8_t *out, size_t out_len)
-{
-    return write_gcc(plan, 1, out, out_len);
-}
-
-static uint8_t by_clang(const Plan *plan, uint8_t *out, size_t out_len)
-{
-    return write_clang(plan, 1, out, out_len);
-}
-
-static Writer *const writers[WRITERS] = {proved, by_gcc, by_clang};
 static uint8_t room[ROOM];
+
+/* every piece of order 1, or of order 2 */
+static void with_order(Component *c, int order)
+{
+    for (int p = 0; p < c->n + 2; p++) {
+        c->pieces[p].order = (uint8_t)(order - 1);
+        c->pieces[p].row[2] = order == 2 ? 50000 : 0;
+    }
+}
+
+/* a plan for this version: version 1 has its last piece twice */
+static Plan plan_for(uint16_t version, int pieces, int order)
+{
+    Plan plan = plan_of(pieces, 1);
+    Component *components[] = {&plan.y, &plan.cb, &plan.cr};
+    for (int k = 0; k < 3; k++) {
+        Component *c = components[k];
+        with_order(c, order);
+        if (version == 1)
+            c->pieces[c->n + 1] = c->pieces[c->n];
+    }
+    return plan;
+}
+
+void each_block(void (*show)(const char *name, const Plan *plan, uint16_t version, size_t length))
+{
+    static const size_t shortest[] = {138, 174}, longest[] = {1008, 1059};
+    for (uint16_t version = 1; version <= 2; version++) {
+        Plan plan = plan_for(version, 1, 1);
+        show("shortest", &plan, version, shortest[version - 1]);
+        plan = plan_for(version, 16, 2);
+        show("longest", &plan, version, longest[version - 1]);
+    }
+}
 
 static void held(int good, const char *what)
 {
@@ -44,15 +58,15 @@ static int all_are(const uint8_t *bytes, size_t n, uint8_t value)
     return 1;
 }
 
-/* every writer leaves the same bytes and none after them, and writes nothing where one byte is missing */
-static void check(const Plan *plan, size_t length)
+void compare_writers(Writer *const writers[], int n, const Plan *plan, uint16_t version, size_t length)
 {
     static uint8_t expected[ROOM];
-    for (int w = 0; w < WRITERS; w++) {
+    for (int w = 0; w < n; w++) {
         uint8_t before = w % 2 ? 0xaa : 0xff;
         memset(room, before, ROOM);
-        held(writers[w](plan, room, length - 1) == 12 && all_are(room, ROOM, before), "a short slice was not refused");
-        held(writers[w](plan, room, ROOM) == 0, "a block was refused");
+        held(writers[w](plan, version, room, length - 1) == 12 && all_are(room, ROOM, before),
+             "a short slice was not refused");
+        held(writers[w](plan, version, room, ROOM) == 0, "a block was refused");
         held(all_are(room + length, ROOM - length, before), "bytes after the block were written");
         if (w == 0)
             memcpy(expected, room, length);
@@ -60,47 +74,20 @@ static void check(const Plan *plan, size_t length)
     }
 }
 
-static double timed(Writer *writer, const Plan *plan)
+static double timed(Writer *writer, const Plan *plan, uint16_t version)
 {
     double began = now();
     for (int r = 0; r < ROUNDS; r++)
-        writer(plan, room, ROOM);
+        writer(plan, version, room, ROOM);
     return (now() - began) / ROUNDS;
 }
 
-static void row(const char *name, const Plan *plan, size_t length)
+void measure_writers(Writer *const writers[], int n, int runs, const Plan *plan, uint16_t version,
+                     double times[n][runs])
 {
-    double times[WRITERS][RUNS], t[WRITERS];
-    check(plan, length);
-    for (int r = 0; r < RUNS; r++)
-        for (int k = 0; k < WRITERS; k++) {
-            int w = r % 2 ? WRITERS - 1 - k : k;
-            times[w][r] = timed(writers[w], plan);
+    for (int r = 0; r < runs; r++)
+        for (int k = 0; k < n; k++) {
+            int w = r % 2 ? n - 1 - k : k;
+            times[w][r] = timed(writers[w], plan, version);
         }
-    for (int w = 0; w < WRITERS; w++)
-        t[w] = median(times[w], RUNS);
-    double c = t[1] < t[2] ? t[1] : t[2];
-    printf("| %s | %zu | %.0f | %.0f | %.2f |\n", name, length, t[0], c, t[0] / c);
-}
-
-/* every piece of order 2 */
-static void square(Component *c)
-{
-    for (int p = 0; p < c->n + 1; p++) {
-        c->pieces[p].order = 1;
-        c->pieces[p].row[2] = 50000;
-    }
-}
-
-void block_rows(void)
-{
-    printf("\nNanoseconds a block that is written, medians of %d interleaved runs:\n\n"
-           "| block | bytes | proved | C | proved / C |\n|---|---|---|---|---|\n",
-           RUNS);
-    Plan shortest = plan_of(1, 1), longest = plan_of(16, 1);
-    square(&longest.y);
-    square(&longest.cb);
-    square(&longest.cr);
-    row("shortest", &shortest, 138);
-    row("longest", &longest, 1008);
 }

@@ -14,13 +14,13 @@ static void assign_pivot_values(const Component *c, int32_t pivot_value[17])
         pivot_value[i] = pivot_value[i - 1] + c->preds[i];
 }
 
-/* 5.4.2.2, and the house rule: no piece beyond n */
+/* 5.4.2.2 */
 static int pivot_index(const int32_t pivot_value[17], int n, int32_t s)
 {
-    for (int idx = 0; idx < n; idx++)
+    for (int idx = 0; idx < n + 1; idx++)
         if (s < pivot_value[idx + 1])
             return idx;
-    return n;
+    return n + 1;
 }
 
 /* 5.4.2.3.2 */

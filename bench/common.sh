@@ -61,5 +61,5 @@ harness() {
   shift
   for part in "$@"; do objcopy --set-section-alignment '.text*=4096' "$part"; done
   gcc -O2 $warnings -DMOST_COLUMNS="$columns" -DMOST_PAIRS="$pairs" bench/picture.c bench/measure.c bench/rows.c \
-    "bench/$name.c" "$@" -o "$out/$name"
+    bench/blocks.c "bench/$name.c" "$@" -o "$out/$name"
 }

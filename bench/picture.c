@@ -29,7 +29,7 @@ static Component component_of(int pieces)
     c.n = (uint8_t)(pieces - 1);
     for (int i = 1; i <= pieces; i++)
         c.preds[i] = (uint16_t)(1023 * i / pieces - 1023 * (i - 1) / pieces);
-    for (int p = 0; p < pieces; p++) {
+    for (int p = 0; p <= pieces; p++) { /* the last one above the last pivot */
         c.pieces[p].order = (uint8_t)(p % 2);
         c.pieces[p].row[0] = 100 * p;
         c.pieces[p].row[1] = (1 << 23) - 70000 * p;

@@ -75,6 +75,22 @@ static void by_picture(void)
     }
 }
 
+static WRITE(proved_write)
+{
+    return speed_write(*plan, version, out, out_len);
+}
+
+static void block_row(const char *name, const Plan *plan, uint16_t version, size_t length)
+{
+    static Writer *const writers[] = {proved_write, write_gcc, write_clang};
+    double times[3][RUNS], t[3];
+    compare_writers(writers, 3, plan, version, length);
+    measure_writers(writers, 3, RUNS, plan, version, times);
+    for (int w = 0; w < 3; w++)
+        t[w] = median(times[w], RUNS);
+    printf("| %s | %d | %zu | %.0f | %.0f | %.2f |\n", name, version, length, t[0], better(t + 1), t[0] / better(t + 1));
+}
+
 int main(void)
 {
     printf("Nanoseconds a sample, medians of %d interleaved runs; 3840 x 2160:\n\n"
@@ -83,6 +99,9 @@ int main(void)
            RUNS);
     each_row(1920, 1080, against_c);
     by_picture();
-    block_rows();
+    printf("\nNanoseconds a block that is written, medians of %d interleaved runs:\n\n"
+           "| block | version | bytes | proved | C | proved / C |\n|---|---|---|---|---|---|\n",
+           RUNS);
+    each_block(block_row);
     return 0;
 }

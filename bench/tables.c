@@ -26,9 +26,11 @@ static void map_codes(const Component *c, int depth, int64_t round, int shift, i
     int first = c->preds[0], last = 0, pivot = first, codes = 1 << depth, s = 0;
     for (int i = 0; i < c->n + 2; i++)
         last += c->preds[i];
-    for (int p = 0; p <= c->n; p++) {
-        pivot += c->preds[p + 1];
-        int end = p < c->n ? pivot : codes, stop = end < last ? end : last, t = s < first ? first : s > last ? last : s;
+    for (int p = 0; p <= c->n + 1; p++) {
+        if (p <= c->n)
+            pivot += c->preds[p + 1];
+        int end = p <= c->n && pivot < codes ? pivot : codes;
+        int stop = end < last ? end : last, t = s < first ? first : s > last ? last : s;
         const int64_t *row = c->pieces[p].row;
         int64_t linear = row[1] * (1 << (20 - depth)), square = row[2] * (1 << (20 - 2 * depth));
         int64_t value = row[0] * (1 << 20) + t * (linear + t * square) + round, step = linear + (2 * t + 1) * square;

@@ -42,15 +42,28 @@ static int component_fits(const Component *c, const Header *h)
         if (i < c->n + 2 ? c->preds[i] >> (h->bl + 8) != 0 : c->preds[i] != 0)
             return 0;
     for (int p = 0; p < PIECES; p++)
-        if (!(p < c->n + 1 ? piece_fits(&c->pieces[p], h->d) : piece_is_zero(&c->pieces[p])))
+        if (!(p < c->n + 2 ? piece_fits(&c->pieces[p], h->d) : piece_is_zero(&c->pieces[p])))
             return 0;
     return 1;
 }
 
-static size_t section_length(const Component *c)
+/* version 1 has no piece above the last pivot: the one below it stands for both */
+static int carries(uint16_t version, const Component *c)
+{
+    const Piece *q = &c->pieces[c->n], *r = q + 1;
+    return version == 2 || (version == 1 && q->idc == r->idc && q->order == r->order && q->row[0] == r->row[0] &&
+                            q->row[1] == r->row[1] && q->row[2] == r->row[2]);
+}
+
+static int pieces_carried(uint16_t version, const Component *c)
+{
+    return c->n + version;
+}
+
+static size_t section_length(uint16_t version, const Component *c)
 {
     size_t bytes = 1 + 2 * (c->n + 2u) + 2 + 3 * 5;
-    for (int p = 0; p < c->n + 1; p++)
+    for (int p = 0; p < pieces_carried(version, c); p++)
         bytes += 2 + 5 * (c->pieces[p].order + 2u);
     return bytes;
 }
@@ -83,12 +96,12 @@ static uint8_t *put_header(uint8_t *at, const Header *h)
     return put_32(put_32(at, h->darkest), 0);
 }
 
-static uint8_t *put_section(uint8_t *at, const Component *c, int d)
+static uint8_t *put_section(uint8_t *at, uint16_t version, const Component *c, int d)
 {
     *at++ = c->n;
     for (int i = 0; i < c->n + 2; i++)
         at = put_16(at, c->preds[i]);
-    for (int p = 0; p < c->n + 1; p++) {
+    for (int p = 0; p < pieces_carried(version, c); p++) {
         const Piece *q = &c->pieces[p];
         *at++ = q->idc;
         *at++ = q->order;
@@ -104,16 +117,19 @@ static uint8_t *put_section(uint8_t *at, const Component *c, int d)
 WRITE(NAME)
 {
     const Header *h = &plan->header;
-    if (version != 1 || !header_fits(h) || !component_fits(&plan->y, h) || !component_fits(&plan->cb, h) ||
+    if (!header_fits(h) || !component_fits(&plan->y, h) || !component_fits(&plan->cb, h) ||
         !component_fits(&plan->cr, h))
         return 7;
-    size_t d2 = section_length(&plan->cr), d1 = d2 + section_length(&plan->cb), d0 = d1 + section_length(&plan->y);
+    if (!carries(version, &plan->y) || !carries(version, &plan->cb) || !carries(version, &plan->cr))
+        return 7;
+    size_t d2 = section_length(version, &plan->cr), d1 = d2 + section_length(version, &plan->cb),
+           d0 = d1 + section_length(version, &plan->y);
     if (out_len < HEADER + d0 + TRAILER)
         return 12;
     uint8_t *at = put_header(out, h);
-    at = put_section(at, &plan->y, h->d);
-    at = put_section(at, &plan->cb, h->d);
-    at = put_section(at, &plan->cr, h->d);
+    at = put_section(at, version, &plan->y, h->d);
+    at = put_section(at, version, &plan->cb, h->d);
+    at = put_section(at, version, &plan->cr, h->d);
     at = put_16(put_16(put_16(put_16(at, HEADER + d0), d0), d1), d2);
     put_16(put_16(at, version), 0);
     return 0;

@@ -17,7 +17,7 @@ import nights
 import places
 import plan_text
 import writer
-from composer import Plan
+from composer import Plan, map_sample
 
 NO_RUN = 255        # the place of an enhancement run that is not present
 GUARD = 16          # bytes on each side of the slice that is lent to the writer
@@ -83,10 +83,12 @@ def _valid_plan(stream):
 
 def _sample_answer(stream):
     plan = _valid_plan(stream)
-    first, count = stream.u16(), stream.u16()
-    base, enhancement = stream.samples(), stream.samples()
+    return sample_line(plan, stream.u16(), stream.u16(), stream.samples(), stream.samples())
+
+
+def sample_line(plan, first, count, base, enhancement, mapping=map_sample):
     output = untouched_output(plan.picture_samples)
-    number, composed = jobs.job(plan, first, count, base, enhancement, output)
+    number, composed = jobs.job(plan, first, count, base, enhancement, output, mapping)
     if number != 0:
         return "refused %d" % number
     return decimal(composed)
@@ -112,7 +114,11 @@ def _block_answer(stream, bases):
     for _ in range(stream.u8()):
         offset = stream.u16()
         edited[offset] = stream.u8()
-    number, plan = block.read(edited[start:stop])
+    return block_line(edited[start:stop])
+
+
+def block_line(data, read=block.read):
+    number, plan = read(data)
     if number != 0:
         return "refused %d" % number
     shown = ["%d:%d" % place for place in enumerate(places.values(plan)) if place[1] != 0]

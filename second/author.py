@@ -7,7 +7,6 @@ Two words after the other, in any order of the two kinds; says what author has t
 """
 
 import os
-import struct
 import sys
 
 import block
@@ -81,7 +80,7 @@ def shown(name):
     number, plan = block.read(data)
     if number != 0:
         raise picture.NotWritten(inspect_block.inspect(name, data)[-2])         # inspect says the same line
-    return plan_text.plan_lines(plan, *struct.unpack(">H", data[-4:-2]))
+    return plan_text.plan_lines(plan, block.version_of(data))
 
 
 def answer(given):

@@ -32,6 +32,19 @@ def page_lines():
 LINES = page_lines()
 
 
+def second_lines():
+    """The same in version 2: each component has a piece 1 too, of its own, 36 bytes more in all."""
+    out = ["version 2"]
+    for line in LINES[1:]:
+        if line.startswith("nlq_offset"):
+            out += ["piece 1", "mapping_idc 0", "poly_order_minus1 0", "poly_coef 0 %d" % len(out), "poly_coef -1 1"]
+        out.append(line)
+    return out
+
+
+SECOND_LINES = second_lines()
+
+
 def joined(lines):
     return "".join(line + "\n" for line in lines).encode("ascii")
 
@@ -44,9 +57,9 @@ def changed(lines, *edits):
     return joined(out)
 
 
-def begun(line, new):
+def begun(line, new, lines=LINES):
     """The lines before this one, and another in its place."""
-    return joined(LINES[:line - 1] + [new])
+    return joined(lines[:line - 1] + [new])
 
 
 def find(lines, *begins):
@@ -87,7 +100,7 @@ def longest_plan():
     plan = end_plan(-1)
     d = plan.coefficient_log2_denom
     for cmp in range(3):
-        for row in plan.fp_poly_coef[cmp][:limits.PIECE_PLACES - 1]:
+        for row in plan.fp_poly_coef[cmp]:
             row[:] = [limits.coefficients(d)[limits.fractions(d)[-1]]] * len(row)
     plan.disable_residual_flag = 0
     return plan
@@ -99,12 +112,16 @@ def good_texts():
         "least": plan_text.text_of(end_plan(0)),
         "greatest": plan_text.text_of(end_plan(-1)),
         "longest": plan_text.text_of(longest_plan()),
-        "middle": middle_text(),
+        "middle": middle_text(1),
+        "shortest_two": joined(SECOND_LINES),
+        "least_two": plan_text.text_of(end_plan(0), 2),             # its last pieces are alike
+        "longest_two": plan_text.text_of(longest_plan(), 2),
+        "middle_two": middle_text(2),
     }
 
 
-def middle_text():
-    return plan_text.text_of(block_cases.middle_plan(Generator(501)))
+def middle_text(version):
+    return plan_text.text_of(block_cases.middle_plan(Generator(501), version), version)
 
 
 # Texts of a wrong form ------------------------------------------------------
@@ -159,6 +176,13 @@ def end_cases():
     return {
         "component": (begun(13, "component 1"), "line 13: component 0 is expected"),
         "piece_wraps": (begun(16, "piece 18446744073709551616"), "line 16: piece 0 is expected"),
+        "piece_missing": (joined(["version 2"] + LINES[1:21]), "line 21: piece is expected"),
+        "piece_missing_later": (begun(38, "nlq_offset 512", SECOND_LINES), "line 38: piece is expected"),
+        "piece_more": (begun(21, "piece 1"), "line 21: nlq_offset is expected"),
+        "piece_more_two": (begun(26, "piece 2", SECOND_LINES), "line 26: nlq_offset is expected"),
+        "piece_again": (begun(21, "piece 0", SECOND_LINES), "line 21: piece 1 is expected"),
+        "version_zeros": (begun(1, "version 02"), "line 1: a number of version begins with 0"),
+        "version_return": (begun(1, "version 2\r"), "line 1: " + line_end),
         "return": (begun(1, "version 1\r"), "line 1: " + line_end),
         "third_pivot": (begun(15, "pred_pivot_value 0 1023 0"), "line 15: " + line_end),
         "no_last_line": (joined(LINES[:-1]), "line 48: linear_deadzone_threshold is expected"),
@@ -200,9 +224,8 @@ def header_cases():
 
 def field_cases():
     """One field of a section of several pieces outside its range."""
-    lines = middle_text().decode("ascii").splitlines()
     # d is 16 there and both depths are 10
-    wrong = {
+    return wrong_fields(middle_text(1), {
         "pivots": (("component 2", "num_pivots_minus2"), STOP, 5, "num_pivots_minus2[2] is %d" % (limits.N[-1] + 1)),
         "pivot": (("component 2", "pred_pivot_value"), "pred_pivot_value 64 736 1024", 5,
                   "pred_pivot_value[2][2] is 1024"),
@@ -221,8 +244,25 @@ def field_cases():
                   "linear_deadzone_slope[2] is 65536"),
         "threshold": (("component 2", "linear_deadzone_threshold"), "linear_deadzone_threshold 255 0", 5,
                       "linear_deadzone_threshold_int[2] is 255"),
-    }
-    out = {}
+    })
+
+
+def last_piece_cases():
+    """One field of a last piece of version 2."""
+    return wrong_fields(middle_text(2), {
+        "mapping_above": (("component 0", "piece 3", "mapping_idc"), "mapping_idc 1", 5, "mapping_idc[0][3] is 1"),
+        "mmr_above": (("component 2", "piece 2", "mapping_idc"), "mapping_idc 1", 6, "mapping_idc[2][2] is 1"),
+        "order_above": (("component 1", "piece 5", "poly_order_minus1"), "poly_order_minus1 2", 5,
+                        "poly_order_minus1[1][5] is 2"),
+        "integer_above": (("component 0", "piece 3", "poly_coef"), "poly_coef 64 0", 5, "poly_coef_int[0][3][0] is 64"),
+        "fraction_above": (("component 2", "piece 2", "poly_coef", "poly_coef", "poly_coef"), "poly_coef 0 65536", 5,
+                           "poly_coef[2][2][2] is 65536"),
+    })
+
+
+def wrong_fields(text, wrong):
+    """{name: (the text with another line, what is shown)}; the line is found by what it and lines before begin with."""
+    lines, out = text.decode("ascii").splitlines(), {}
     for name, (begins, new, number, found) in wrong.items():
         line = find(lines, *begins)
         rule = {5: "field", 6: "method"}[number]
@@ -234,9 +274,16 @@ def field_cases():
 def order_cases():
     """Two faults: a wrong form before any range, else the first by the order of reading a block."""
     profile = (2, "ccm_profile 2")
+
+    def no_version(number):
+        return ("line 1: refused 2 (trailer): A is 27, D0 is 3, D1 is 2, D2 is 1, version is %d, zero is 0, "
+                "allowed A = D0 + 24, D0 > D1 > D2 > 0, version 1 or 2, zero 0" % number)
     return {
-        "version": (changed(LINES, (1, "version 2")),
-                    "line 1: refused 2 (trailer): A is 126, D0 is 102, D1 is 68, D2 is 34, version is 2, zero is 0, "),
+        "version": (changed(LINES, (1, "version 3")), no_version(3)),
+        "version_0": (changed(SECOND_LINES, (1, "version 0")), no_version(0)),
+        "version_258": (begun(1, "version 258"), no_version(258)),
+        "version_65535": (b"version 65535", no_version(65535)),
+        "version_not_read_on": (b"version 3 and more", no_version(3)),
         "form_first": (changed(LINES[:20], profile, (20, "poly_coef 1")),
                        "line 20: one space and a number of poly_coef are expected"),
         "not_read_on": (changed(LINES[:15], (14, STOP + " and more")),
@@ -249,7 +296,7 @@ def order_cases():
 def bad_texts():
     """{name: (text, what is shown)}."""
     return {**name_cases(), **number_cases(), **large_cases(), **end_cases(), **header_cases(), **field_cases(),
-            **order_cases()}
+            **last_piece_cases(), **order_cases()}
 
 
 # All ------------------------------------------------------------------------
@@ -257,8 +304,10 @@ def bad_texts():
 def blocks():
     """Blocks that are only shown, each under its name, with the number of its refusal."""
     good = plan_text.read_text(joined(LINES)).data
-    chosen = {"behind_another.block": (good[:50] + good, 0),
-              "version.block": (good[:-3] + b"\2\0\0", 2), "mmr.block": (good[:63] + b"\1" + good[64:], 6)}
+    second = plan_text.read_text(joined(SECOND_LINES)).data
+    chosen = {"behind_another.block": (good[:50] + good, 0), "behind_version_1.block": (good + second, 0),
+              "version.block": (good[:-3] + b"\3\0\0", 2), "mmr.block": (good[:63] + b"\1" + good[64:], 6),
+              "one_as_two.block": (good[:-3] + b"\2\0\0", 5), "two_as_one.block": (second[:-3] + b"\1\0\0", 5)}
     for name, (data, number) in chosen.items():
         assert block.read(data)[0] == number, name
     return chosen

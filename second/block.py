@@ -1,4 +1,4 @@
-"""The composing block of the house rules: reading it and writing it (version 1).
+"""The composing block of the house rules, versions 1 and 2: reading it and writing it.
 
 Order of the answers (the house rules, "Reading"): under 12 bytes 1, then 2, then
 the rest of 1, then 4, then the sections from first byte to last, each field
@@ -39,10 +39,15 @@ def _read_block(data):
     if A > t:
         raise Refusal(1)
     plan = _read_header(data[t - A:t - D0])
-    _read_section(plan, 0, data[t - D0:t - D1])
-    _read_section(plan, 1, data[t - D1:t - D2])
-    _read_section(plan, 2, data[t - D2:t])
+    _read_section(plan, 0, data[t - D0:t - D1], version)
+    _read_section(plan, 1, data[t - D1:t - D2], version)
+    _read_section(plan, 2, data[t - D2:t], version)
     return plan
+
+
+def version_of(data):
+    """What the trailer says, whether there is such a version or not."""
+    return struct.unpack_from(">H", data, len(data) - 4)[0]
 
 
 def _read_header(header):
@@ -118,8 +123,8 @@ def _take_mapping_idc(fields, cmp):
     return _in_range(mapping_idc, limits.MAPPING)
 
 
-def _read_section(plan, cmp, section):
-    """House rules, "Section, in order"."""
+def _read_section(plan, cmp, section, version):
+    """House rules, "Section"."""
     d = plan.coefficient_log2_denom
     fields = _Fields(section)
     n = _in_range(fields.take(1), limits.N)
@@ -127,13 +132,15 @@ def _read_section(plan, cmp, section):
     for i in range(limits.pivots(n)):
         plan.pred_pivot_value[cmp][i] = _in_range(
             fields.take(2), limits.samples(plan.BL_bit_depth))
-    for piece in range(limits.pieces(n)):
+    for piece in range(limits.carried(n, version)):
         plan.mapping_idc[cmp][piece] = _take_mapping_idc(fields, cmp)
         order = _in_range(fields.take(1), limits.ORDERS)
         plan.poly_order_minus1[cmp][piece] = order
         for i in range(limits.coefs(order)):
             plan.fp_poly_coef[cmp][piece][i] = _take_fixed_point(
                 fields, limits.COEF_INTS, d)
+    if limits.carried(n, version) < limits.pieces(n):
+        repeat_last_piece(plan, cmp)
     plan.nlq_offset[cmp] = _in_range(fields.take(2), limits.samples(plan.EL_bit_depth))
     plan.fp_hdr_in_max[cmp] = _take_fixed_point(fields, limits.NLQ_INTS, d)
     plan.fp_linear_deadzone_slope[cmp] = _take_fixed_point(fields, limits.NLQ_INTS, d)
@@ -141,9 +148,31 @@ def _read_section(plan, cmp, section):
     fields.end()
 
 
+def repeat_last_piece(plan, cmp):
+    """House rules: what version 1 carries is read as if its piece n stood twice."""
+    n = plan.num_pivots_minus2[cmp]
+    plan.mapping_idc[cmp][n + 1] = plan.mapping_idc[cmp][n]
+    plan.poly_order_minus1[cmp][n + 1] = plan.poly_order_minus1[cmp][n]
+    plan.fp_poly_coef[cmp][n + 1] = list(plan.fp_poly_coef[cmp][n])
+
+
+def last_piece_repeated(plan, cmp):
+    n = plan.num_pivots_minus2[cmp]
+    return (plan.mapping_idc[cmp][n + 1] == plan.mapping_idc[cmp][n]
+            and plan.poly_order_minus1[cmp][n + 1] == plan.poly_order_minus1[cmp][n]
+            and plan.fp_poly_coef[cmp][n + 1] == plan.fp_poly_coef[cmp][n])
+
+
+def has_place_for(version, plan):
+    """Whether a block of this version holds every piece of a plan in range."""
+    return all(limits.carried(n, version) == limits.pieces(n) or last_piece_repeated(plan, cmp)
+               for cmp, n in enumerate(plan.num_pivots_minus2))
+
+
 def write(plan, version=limits.VERSIONS[0]):
     """The block of a plan in range, which writer.py tests; cases are made from it too."""
-    sections = [section_bytes(plan, cmp) for cmp in range(3)]
+    assert has_place_for(version, plan)             # no case loses a piece in silence
+    sections = [section_bytes(plan, cmp, version) for cmp in range(3)]
     return assemble(header_bytes(plan), sections, version)
 
 
@@ -167,13 +196,13 @@ def header_bytes(plan):
         plan.min_display_mastering_luminance, 0)
 
 
-def section_bytes(plan, cmp):
+def section_bytes(plan, cmp, version):
     d = plan.coefficient_log2_denom
     n = plan.num_pivots_minus2[cmp]
     out = bytearray([n])
     for i in range(limits.pivots(n)):
         out += struct.pack(">H", plan.pred_pivot_value[cmp][i])
-    for piece in range(limits.pieces(n)):
+    for piece in range(limits.carried(n, version)):
         order = plan.poly_order_minus1[cmp][piece]
         out += bytes([plan.mapping_idc[cmp][piece], order])
         for i in range(limits.coefs(order)):

@@ -3,7 +3,8 @@
 A case is a base block, some byte edits, and the slice of it that is read.  Where
 one thing alone is wrong with a block, or nothing is, the case is made with the
 number that it is to show, and reading has to give it: so no case is lost when a
-limit moves.
+limit moves.  SHOWS says which wrong readers a kind of case tells from the right
+one; selftest.py builds them (wrong_readers.py) and holds the cases to it.
 """
 
 from collections import namedtuple
@@ -11,12 +12,33 @@ from collections import namedtuple
 import block
 import limits
 from generator import Generator
-from limits import (DEPTHS, HDR_DEPTHS, HEADER_BYTES, SHORTEST_SECTION, TRAILER_BYTES,
+from limits import (DEPTHS, HDR_DEPTHS, HEADER_BYTES, SHORTEST_SECTION, TRAILER_BYTES, VERSIONS,
                     denominators, minus8)
 from sample_cases import Nlq, Section, make_plan, visible_piece
 
 Case = namedtuple("Case", "kind base start stop edits")
 Field = namedtuple("Field", "name offset size")
+
+SHOWS = {
+    "valid": (
+        "the copy forgotten", "the copy forgotten in chroma", "piece 0 copied", "the order not copied",
+        "the first coefficient not copied", "the third coefficient not copied", "version 1 taken for 2"),
+    "longest": ("the copy forgotten", "piece 0 copied"),
+    "trailer version": (
+        "version 3 taken for 1", "version 0 taken for 1", "a version by its low byte",
+        "a version by its high byte if that is not 0"),
+    "valid, version 2": (
+        "version 2 refused", "version 2 taken for 1", "a copy in version 2 too", "version 2 of luma alone",
+        "version 2 of chroma alone"),
+    "longest, version 2": ("version 2 taken for 1", "a copy in version 2 too"),
+    "trailer version, version 2": (
+        "version 3 taken for 2", "a version by its low byte", "a version by its high byte if that is not 0"),
+    "other version": ("version 2 refused", "version 2 taken for 1", "as many pieces as a section has"),
+    "other version, version 2": ("version 1 taken for 2", "as many pieces as a section has"),
+    "other number of pieces": ("as many pieces as a section has",),
+    "other number of pieces, version 2": ("as many pieces as a section has",),
+    "section field, version 2": ("version 2 taken for 1", "a copy in version 2 too"),
+}
 
 HEADER_FIELDS = (
     Field("profile", 0, 1), Field("level", 1, 1), Field("d", 2, 1), Field("bl", 3, 1),
@@ -33,6 +55,7 @@ class Base:
     def __init__(self, number, data, plan=None, ignored=0):
         self.number = number
         self.data = data
+        self.version = block.version_of(data)
         self.fields = {}
         if plan is not None:
             self._find_fields(plan, ignored)
@@ -41,7 +64,7 @@ class Base:
         self._add(at, HEADER_FIELDS)
         at += HEADER_BYTES
         for cmp in range(3):
-            fields = section_fields(plan, cmp)
+            fields = section_fields(plan, cmp, self.version)
             self._add(at, fields)
             at += fields[-1].offset + fields[-1].size
         self._add(at, TRAILER_FIELDS)
@@ -75,7 +98,7 @@ class Base:
         return edits
 
 
-def section_fields(plan, cmp):
+def section_fields(plan, cmp, version):
     """The fields of one section in order, offsets from its first byte."""
     fields = []
     at = 0
@@ -93,7 +116,7 @@ def section_fields(plan, cmp):
     add("n", 1)
     for i in range(limits.pivots(n)):
         add("pivot%d" % i, 2)
-    for piece in range(limits.pieces(n)):
+    for piece in range(limits.carried(n, version)):
         add("p%d_idc" % piece, 1)
         add("p%d_order" % piece, 1)
         for i in range(limits.coefs(plan.poly_order_minus1[cmp][piece])):
@@ -114,8 +137,8 @@ class Bases:
     def add(self, data):
         return self._keep(Base(len(self.all), data))
 
-    def add_plan(self, plan, ignored=b""):
-        data = ignored + block.write(plan)
+    def add_plan(self, plan, ignored=b"", version=1):
+        data = ignored + block.write(plan, version)
         return self._keep(Base(len(self.all), data, plan, len(ignored)))
 
     def _keep(self, base):
@@ -128,7 +151,7 @@ def read_part(kind, base, start, stop, edits=(), number=None):
     if number is not None:
         answer, _ = block.read(base.changed(edits)[start:stop])
         assert answer == number, "%s: %d in place of %d" % (kind, answer, number)
-    return Case(kind, base.number, start, stop, list(edits))
+    return Case(kind + ", version 2" * (base.version == 2), base.number, start, stop, list(edits))
 
 
 def read_whole(kind, base, edits=(), number=None):
@@ -137,50 +160,52 @@ def read_whole(kind, base, edits=(), number=None):
 
 # Plans for the base blocks -------------------------------------------------
 
-def small_section(depth, d, cmp, order):
-    """One piece, few numbers that are not zero, different in each section."""
+def small_section(depth, d, cmp, order, version):
+    """n = 0, few numbers that are not zero, different in each section."""
     top = (1 << depth) - 1
     coef = [0, 1 << d] if order == 1 else [0, 1 << (d - 1), -1]
     coef[0] = (0, 5, -3)[cmp]
+    last = [1 << (d - 1 - cmp), -2, 3 + cmp][:order + 1]
     nlq = Nlq(top // 2 - cmp, (1 << d) - cmp, 7 + cmp, 2 * cmp)
-    return Section([cmp, top], [coef], nlq)
+    return Section([cmp, top], [coef, last][:limits.carried(0, version)], nlq)
 
 
-def small_plan(depth, d, order=1, hdr_bit_depth=12, flag=0):
-    sections = [small_section(depth, d, cmp, order) for cmp in range(3)]
+def small_plan(depth, d, order=1, hdr_bit_depth=12, flag=0, version=1):
+    sections = [small_section(depth, d, cmp, order, version) for cmp in range(3)]
     plan = make_plan(depth, d, hdr_bit_depth, 8, 4, sections, flag)
     plan.min_display_mastering_luminance = 0
     return plan
 
 
-def middle_plan(generator):
-    """3, 5 and 2 pieces of both orders."""
+def middle_plan(generator, version=1):
+    """n of 2, 4 and 1, pieces of both orders."""
     d = 16
     sections = []
     for pivots in ([0, 300, 512, 1023], [4, 4, 90, 91, 700, 1026], [64, 800, 960]):
-        pieces = [visible_piece(d, 2 - i % 2, generator) for i in range(len(pivots) - 1)]
+        pieces = [visible_piece(d, 2 - i % 2, generator)
+                  for i in range(limits.carried(len(pivots) - 2, version))]
         sections.append(Section(pivots, pieces, Nlq(512, 1 << d, 77, 3)))
     plan = make_plan(10, d, 10, 1920, 1080, sections, 1)
     plan.ccm_profile = 3
     return plan
 
 
-def zero_plan(pieces, order):
+def zero_plan(n, order):
     """Sections of zeros: a wrong n or order then meets a wrong length only."""
-    section = Section([0] * (pieces + 1), [[0] * (order + 1)] * pieces, Nlq(0, 0, 0, 0))
+    section = Section([0] * limits.pivots(n), [[0] * (order + 1)] * limits.pieces(n), Nlq(0, 0, 0, 0))
     return make_plan(10, denominators(10)[0], 12, 8, 4, [section] * 3)
 
 
-def longest_plan(depth, d, generator):
+def longest_plan(depth, d, generator, version=1):
     """All pieces of order 2 in each section, every coefficient its own; the largest size."""
     top = (1 << depth) - 1
-    most = range(limits.pieces(limits.N[-1]))
     sections = []
     for cmp in range(3):
         pivots = [cmp + 1]
-        for _ in most:
+        while len(pivots) < limits.PIVOT_PLACES:
             pivots.append(pivots[-1] + generator.between(1, top))
-        pieces = [[generator.among(limits.coefficients(d)) for _ in range(3)] for _ in most]
+        pieces = [[generator.among(limits.coefficients(d)) for _ in range(3)]
+                  for _ in range(limits.carried(limits.N[-1], version))]
         nlq = Nlq(top - cmp, *(generator.among(limits.nlq_numbers(d)) for _ in range(3)))
         sections.append(Section(pivots, pieces, nlq))
     return make_plan(depth, d, 12, 2 * limits.HALF_WIDTHS[-1], 2 * limits.HALF_HEIGHTS[-1],
@@ -289,15 +314,20 @@ def distances(base):
             for found in group]
 
 
-def trailer_cases(base, ignoring):
+def version_values(base):
+    """(version, answer): that of the base, and those that there are none of."""
+    none = [*range(VERSIONS[0]), VERSIONS[-1] + 1, VERSIONS[-1] + 2, 255, 256, 257, 258, 513, 65535]
+    return [(base.version, 0)] + [(version, 2) for version in none]
+
+
+def trailer_cases(bases):
     """Distances; versions; the last field."""
-    versions = [*range(limits.VERSIONS[-1] + 3), 255, 256, 256 + limits.VERSIONS[-1], 65535]
     cases = []
-    for one in (base, ignoring):
+    for one in bases:
         cases += [read_whole("trailer distances", one, one.put(A=A, D0=D0, D1=D1, D2=D2), number)
                   for A, D0, D1, D2, number in distances(one)]
-        cases += [read_whole("trailer version", one, one.put(version=version),
-                             0 if version in limits.VERSIONS else 2) for version in versions]
+        cases += [read_whole("trailer version", one, one.put(version=version), number)
+                  for version, number in version_values(one)]
         cases += [read_whole("trailer last field", one, one.put(last=last),
                              0 if last in limits.ZERO else 2)
                   for last in (0, 1, 255, 256, 65535)]
@@ -337,11 +367,21 @@ def names_of_sections(base):
     return [name for name in base.fields if name[0] == "s" and name[1].isdigit()]
 
 
-def section_edge_cases(bases):
+def last_piece(base, cmp):
+    """What the names of the fields of a section's last piece begin with."""
+    return "s%d_p%d_" % (cmp, limits.carried(base.value("s%d_n" % cmp), base.version) - 1)
+
+
+def names_of_last_pieces(base):
+    last = tuple(last_piece(base, cmp) for cmp in range(3))
+    return [name for name in base.fields if name.startswith(last)]
+
+
+def section_edge_cases(bases, names=names_of_sections):
     cases = []
     for base in bases:
         depth, d = base.value("el") + 8, base.value("d")
-        for name in names_of_sections(base):
+        for name in names(base):
             for value, number in edge_values(name, depth, d):
                 if value < 1 << 32:
                     cases.append(read_whole("section field", base,
@@ -388,17 +428,18 @@ def longest_cases(base):
     """The largest section: its last pieces and pivots, n one too large."""
     top = limits.samples(base.value("bl") + 8)[-1]
     n = limits.N[-1]
-    pivot, piece = "pivot%d" % (limits.PIVOT_PLACES - 1), "p%d_" % n
     low, high = limits.COEF_INTS[0], limits.COEF_INTS[-1]
     cases = [read_whole("longest", base, number=0)]
     for cmp in range(3):
+        section, piece = "s%d_" % cmp, last_piece(base, cmp)
+        pivot = section + "pivot%d" % (limits.PIVOT_PLACES - 1)
         for name, value, number in (
-                ("n", n + 1, 5), ("n", n - 1, None), (pivot, top + 1, 5), (pivot, top, 0),
+                (section + "n", n + 1, 5), (section + "n", n - 1, None), (pivot, top + 1, 5), (pivot, top, 0),
                 (piece + "idc", limits.MMR, 6 if cmp else 5), (piece + "idc", 2, 5),
                 (piece + "order", limits.ORDERS[-1] + 1, 5), (piece + "order", 0, None),
                 (piece + "c2_int", high + 1, 5), (piece + "c2_int", low - 1, 5),
-                ("offset", top + 1, 5), ("threshold_int", limits.NLQ_INTS[-1] + 1, 5)):
-            edits = base.put_all([("s%d_%s" % (cmp, name), value)])
+                (section + "offset", top + 1, 5), (section + "threshold_int", limits.NLQ_INTS[-1] + 1, 5)):
+            edits = base.put_all([(name, value)])
             cases.append(read_whole("longest", base, edits, number))
     return cases
 
@@ -415,13 +456,15 @@ def cut_section(base, cmp, size, tails):
     return base, base.put_all([(after, base.value(before) - size)])
 
 
-def cut_cases(base, tails):
-    """Each field cut off, whole or in part, in range or not."""
+def cut_cases(base, tails, least=1):
+    """Each field cut off, whole or in part, in range or not; this many bytes or more are left of a section."""
     cases = []
     depth, d = base.value("el") + 8, base.value("d")
+    sizes = range(least, SHORTEST_SECTION[base.version])
     for cmp in range(3):
         start = base.fields["s%d_n" % cmp].offset
-        for size in range(1, SHORTEST_SECTION):
+        left = [size for size in sizes if cmp < 2 or size in tails]
+        for size in left:
             cut, edits = cut_section(base, cmp, size, tails)
             cases.append(read_whole("section cut", cut, edits, 3))
         for name in names_of_sections(base):
@@ -431,7 +474,7 @@ def cut_cases(base, tails):
             bad = base.put_all([(name, edge_values(name, depth, d)[-1][0])])
             end = field.offset + field.size - start
             for size in (end, end - 1):
-                if 0 < size < SHORTEST_SECTION:
+                if size in left:
                     cut, edits = cut_section(base, cmp, size, tails)
                     cases.append(read_whole("bad field and cut", cut,
                                             edits + within(bad, start + size, cut)))
@@ -457,7 +500,7 @@ def one_bad_length(base, cmp, change):
     """The block with section cmp one byte longer or shorter, or more."""
     header, *sections = split(base)
     sections[cmp] = change(sections[cmp])
-    return block.assemble(header, sections)
+    return block.assemble(header, sections, base.version)
 
 
 def length_cases(bases, base):
@@ -481,8 +524,7 @@ def length_cases(bases, base):
                          for offset, byte in base.put_all([(name, value)])]
                 if all(offset < len(data) - TRAILER_BYTES for offset, _ in edits):
                     cases.append(read_whole("section length and fault", changed, edits))
-            cases.append(Case("section length and fault", changed.number, 1,
-                              len(data), []))
+            cases.append(read_part("section length and fault", changed, 1, len(data)))
     return cases
 
 
@@ -557,20 +599,19 @@ def order_cases(base):
 
 # Cuts and ignored bytes ------------------------------------------------------
 
-def truncation_cases(base):
-    """Every cut from the front and from the back."""
+def truncation_cases(base, near=None):
+    """Every cut from the front and from the back, or those so near to an end."""
     size = len(base.data)
-    cases = [Case("cut at the front", base.number, start, size, [])
-             for start in range(size + 1)]
-    cases += [Case("cut at the back", base.number, 0, stop, [])
-              for stop in range(size + 1)]
+    places = [at for at in range(size + 1) if near is None or min(at, size - at) <= near]
+    cases = [read_part("cut at the front", base, start, size) for start in places]
+    cases += [read_part("cut at the back", base, 0, stop) for stop in places]
     return cases
 
 
 def ignored_cases(base, ignored, step):
     """Bytes before the header may be there, be cut, or have any value."""
     size = len(base.data)
-    cases = [Case("ignored bytes", base.number, start, size, [])
+    cases = [read_part("ignored bytes", base, start, size)
              for start in list(range(0, ignored, step)) + [ignored - 1, ignored,
                                                            ignored + 1]]
     cases += [read_whole("ignored bytes", base, [(at, base.data[at] ^ 0xff)])
@@ -587,6 +628,87 @@ def zero_cases(bases):
                   for stop in (0, 1, *range(TRAILER_BYTES - 2, TRAILER_BYTES + 2), HEADER_BYTES,
                                40)]
     return cases
+
+
+# Pieces of the two versions ---------------------------------------------------
+
+def other_version_cases(bases, number=None):
+    """The trailer says the other version, so that a section has a piece too few or one too many.
+
+    In sections of zeros nothing but their length is wrong then; what stands in others may come first.
+    """
+    return [refused_whole("other version", base, base.put(version=3 - base.version), number) for base in bases]
+
+
+def refused_whole(kind, base, edits=(), number=None):
+    """A case that is to be refused, whatever the number is where none is given."""
+    assert block.read(base.changed(edits))[0] != 0
+    return read_whole(kind, base, edits, number)
+
+
+def piece_count_cases(bases, base, number=None):
+    """One section has a piece less, or one more, than its version says; the distances are right."""
+    cases = []
+    for cmp in range(3):
+        start, stop = (base.fields[name].offset - base.fields["s%d_n" % cmp].offset
+                       for name in (last_piece(base, cmp) + "idc", "s%d_offset" % cmp))
+        for change in (lambda s: s[:start] + s[stop:], lambda s: s[:stop] + s[start:]):
+            changed = bases.add(one_bad_length(base, cmp, change))
+            cases.append(refused_whole("other number of pieces", changed, number=number))
+    return cases
+
+
+def last_piece_order_cases(base):
+    """A fault in a last piece and another one: 2, then 4, then the one that stands first."""
+    sample, integer = limits.samples(base.value("bl") + 8)[-1] + 1, limits.NLQ_INTS[-1] + 1
+    last = (Fault(last_piece(base, 0) + "idc", limits.MMR, 5), Fault(last_piece(base, 1) + "idc", limits.MMR, 6),
+            Fault(last_piece(base, 2) + "order", limits.ORDERS[-1] + 1, 5),
+            Fault(last_piece(base, 2) + "c1_int", limits.COEF_INTS[-1] + 1, 5))
+    others = (Fault("version", VERSIONS[-1] + 1, 2), Fault("profile", 2, 4), Fault("s0_p0_idc", 2, 5),
+              Fault("s0_offset", sample, 5), Fault("s1_p0_idc", limits.MMR, 6), Fault("s1_offset", sample, 5),
+              Fault("s2_p0_idc", limits.MMR, 6), Fault("s2_threshold_int", integer, 5))
+    cases = []
+    for one in last:
+        for other in others:
+            first = min(one, other, key=lambda fault: base.fields[fault.name].offset)
+            cases.append(read_whole("two faults", base, base.put_all([one[:2], other[:2]]),
+                                    first_met(one, other) or first.number))
+    return cases
+
+
+def second_cases(bases, firsts):
+    """Version 2, and blocks of both versions, `firsts` of version 1, that are made or taken for the other one."""
+    generator = Generator(203)
+    least_8, least_10, most = denominators(8)[0], denominators(10)[0], denominators(10)[-1]
+
+    def add(plan, ignored=b""):
+        return bases.add_plan(plan, ignored, 2)
+
+    short = add(small_plan(10, least_10, version=2))
+    second = add(small_plan(8, most, order=2, hdr_bit_depth=10, flag=1, version=2))
+    middle = add(middle_plan(generator, 2))
+    longest_10 = add(longest_plan(10, most, generator, 2))
+    longest_8 = add(longest_plan(8, least_8, generator, 2))
+    zeros = [add(zero_plan(n, order)) for n, order in ((0, 1), (2, 1), (limits.N[-1], 2))]
+    behind = add(small_plan(8, 20, version=2), block.write(small_plan(8, 20)))
+    alike = add(middle_plan(generator))
+    tails = {size: bases.add(one_bad_length(short, 2, lambda section: section[:size])) for size in (17, 19, 28, 29, 45)}
+
+    cases = [read_whole("valid", base, number=0) for base in (short, second, middle, behind, alike)]
+    cases += trailer_cases([behind])
+    cases += section_edge_cases([short, second], names_of_last_pieces)
+    cases += shape_cases(zeros[:2])
+    cases += longest_cases(longest_10)
+    cases += longest_cases(longest_8)[:13]
+    cases += cut_cases(short, tails, min(tails))
+    cases += last_piece_order_cases(short)
+    cases += truncation_cases(short, 14)
+    cases += other_version_cases([short, second, middle, longest_10, behind, alike] + firsts)
+    cases += other_version_cases(zeros, 3)
+    cases += piece_count_cases(bases, zeros[0], 3)
+    for base in (middle, firsts[-1]):                   # of several pieces each
+        cases += piece_count_cases(bases, base)
+    return cases + damage_cases([short, short, second, middle, behind], Generator(204), 120)
 
 
 # Random damage ----------------------------------------------------------------
@@ -635,7 +757,7 @@ def damaged_case(base, generator):
     elif cut == 2:
         start = generator.below(stop)
         stop = generator.between(start, stop)
-    return Case("damaged", base.number, start, stop, list(edits.items()))
+    return read_part("damaged", base, start, stop, edits.items())
 
 
 def damage_cases(choices, generator, number):
@@ -666,15 +788,14 @@ def all_cases():
     after_other = bases.add_plan(small_plan(10, least_10), other)
     noise = bytes(generator.below(256) for _ in range(2000))
     after_noise = bases.add_plan(small_plan(8, least_8), noise)
-    zeros = [bases.add_plan(zero_plan(pieces, order))
-             for pieces, order in ((1, 1), (1, 2), (3, 1), (limits.pieces(limits.N[-1]), 2))]
-    header, *sections = split(short_10)
-    tails = {size: bases.add(block.assemble(header, sections[:2] + [sections[2][:size]]))
-             for size in range(1, SHORTEST_SECTION)}
+    zeros = [bases.add_plan(zero_plan(n, order))
+             for n, order in ((0, 1), (0, 2), (2, 1), (limits.N[-1], 2))]
+    tails = {size: bases.add(one_bad_length(short_10, 2, lambda section: section[:size]))
+             for size in range(1, SHORTEST_SECTION[1])}
 
     cases = [read_whole("valid", base, number=0) for base in bases.all[:5]]
     cases += header_cases([short_10, short_8])
-    cases += trailer_cases(short_10, after_other)
+    cases += trailer_cases([short_10, after_other])
     cases += section_edge_cases([short_10, short_8, second_10, second_8])
     cases += shape_cases(zeros)
     cases += denominator_cases(short_10)
@@ -690,5 +811,7 @@ def all_cases():
     cases += ignored_cases(after_noise, len(noise), 250)
     cases += zero_cases(bases)
     cases += damage_cases([short_10, short_10, short_8, short_8, middle, second_8,
-                           after_other, tails[SHORTEST_SECTION - 1]], Generator(202), 3000)
+                           after_other, tails[SHORTEST_SECTION[1] - 1]], Generator(202), 3000)
+    cases += other_version_cases(zeros, 3) + piece_count_cases(bases, zeros[2], 3)
+    cases += second_cases(bases, [short_10, second_8, longest_10, after_other, middle])
     return [base.data for base in bases.all], cases

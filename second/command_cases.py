@@ -118,6 +118,7 @@ def use_cases():
 def good_cases():
     plain, enhanced = composed(BLOCK, BASE), composed(BLOCK, BASE, ENHANCEMENT)
     eight = composed(FILES["eight_bit.block"], FILES["eight_bit.yuv"])
+    second = {"two": FILES["version_two.block"]}
     latin = os.fsdecode(b"\xe9t\xe9.yuv")
     return [
         good(["block", "base.yuv", "none", "out.yuv"], "out.yuv", plain),
@@ -129,6 +130,10 @@ def good_cases():
         good(["eight", "base8.yuv", "none", "out.yuv"], "out.yuv", eight,
              add={"eight": FILES["eight_bit.block"], "base8.yuv": FILES["eight_bit.yuv"]}),
         good(["zeros", "base.yuv", "none", "out.yuv"], "out.yuv", plain, add={"zeros": FILES["behind_zeros.block"]}),
+        good(["two", "base.yuv", "none", "out.yuv"], "out.yuv", composed(second["two"], BASE), add=second),
+        good(["--standby", "two", "base.yuv", "enhancement.yuv", "out.yuv"], "out.yuv",
+             composed(second["two"], BASE, ENHANCEMENT), add=second),
+        good(["alike", "base.yuv", "none", "out.yuv"], "out.yuv", plain, add={"alike": FILES["alike_two.block"]}),
         good(["flag", "base.yuv", "missing.yuv", "out.yuv"], "out.yuv", plain, add={"flag": FILES["flag.block"]}),
         good(["block", "base.yuv", "none", "base.yuv"], "base.yuv", plain),
         good(["block", "base.yuv", "base.yuv", "base.yuv"], "base.yuv", composed(BLOCK, BASE, BASE)),
@@ -193,8 +198,9 @@ def output_cases():
 def refused_block_cases():
     out = [bad(["bad", "base.yuv", "none", "out.yuv"], inspect_block.inspect("bad", FILES[name])[-2],
                add={"bad": FILES[name]})
-           for name in ("eleven.block", "cut.block", "version.block", "left_over.block", "profile.block",
-                        "profile_behind_zeros.block", "far.block", "too_far.block", "coefficient.block", "mmr.block")]
+           for name in ("eleven.block", "cut.block", "version.block", "one_as_two.block", "left_over.block",
+                        "profile.block", "profile_behind_zeros.block", "far.block", "too_far.block",
+                        "coefficient.block", "mmr.block")]
     short = words.refused("bad", 1, "0 bytes, allowed 12 or more")
     out.append(bad(["bad", "base.yuv", "none", "out.yuv"], short, add={"bad": b""}))
     out.append(bad(["/dev/null", "base.yuv", "none", "out.yuv"], short.replace("bad", "/dev/null", 1)))
@@ -291,6 +297,8 @@ def inspect_cases():
         inspect("--help", said="./inspect --plot mappings.svg crates/compose_file/data/block\n"),
         inspect("--rules", said=shown("--rules")),
         inspect("block", said=shown("block")),
+        inspect("version_two.block", said=shown("version_two.block"), exact=True,
+                add={"version_two.block": FILES["version_two.block"]}),
         inspect("block", "small.block", said=shown("block", "small.block"), add={"small.block": BLOCK}),
         inspect("--", "block", "--rules", said=shown("block", "./--rules"), add={"--rules": BLOCK}),
         inspect("block", "missing", "eleven.block", "block", "pipe", "block", status=1, said=shown("block") * 3,
@@ -298,8 +306,9 @@ def inspect_cases():
                       inspect_block.inspect("eleven.block", FILES["eleven.block"])[-2], PIPE % "pipe"],
                 add={"eleven.block": FILES["eleven.block"]}, setup=make(("mkfifo", "pipe"))),
     ] + [inspect(name, status=1, line=inspect_block.inspect(name, FILES[name])[-2], add={name: FILES[name]})
-         for name in ("eleven.block", "cut.block", "version.block", "left_over.block", "profile_behind_zeros.block",
-                      "far.block", "too_far.block", "coefficient.block", "mmr.block", "empty")] + [
+         for name in ("eleven.block", "cut.block", "version.block", "one_as_two.block", "left_over.block",
+                      "profile_behind_zeros.block", "far.block", "too_far.block", "coefficient.block", "mmr.block",
+                      "empty")] + [
         inspect(".", status=1, line=".: cannot be read: it is a folder"),
         inspect("", status=1, line=": cannot be read: no such file or folder"),
         inspect("block/x", status=1, line="block/x: cannot be read: a folder of its path is a file"),
@@ -312,13 +321,17 @@ def inspect_cases():
 
 
 def plot_cases():
-    svg = "".join(line + "\n" for line in inspect_block.answer(["--plot", "block"], ROOM.__getitem__)[:-1]).encode()
+    def drawn(data):
+        return "".join(line + "\n" for line in inspect_block.inspect("", data, plotted=True)[:-1]).encode()
+
+    svg, second = drawn(BLOCK), FILES["version_two.block"]
 
     def refused(output, why, **wanted):
         return inspect("--plot", output, "block", status=1, line="%s: cannot be written: %s" % (output, why), **wanted)
     return [
         inspect("--plot", "out.svg", "block", left={"out.svg": svg}, said="out.svg: written\n"),
         inspect("--plot", "old.svg", "block", left={"old.svg": svg}, add={"old.svg": b"older"}),
+        inspect("--plot", "out.svg", "two", left={"out.svg": drawn(second)}, add={"two": second}),
         inspect("--plot", "--", "-out.svg", "block", left={"-out.svg": svg}),
         inspect("--plot", "a b.svg", "--plot", left={"a b.svg": svg}, add={"--plot": BLOCK}),
         inspect("--plot", "link", "block", left={"new.svg": svg}, setup=make(("symlink", "new.svg", "link"))),
@@ -339,14 +352,15 @@ def plot_cases():
 # author ---------------------------------------------------------------------
 
 TEXT = author_cases.joined(author_cases.LINES)
-TEXT_BLOCK = plan_text.read_text(TEXT).data
+SECOND_TEXT = author_cases.joined(author_cases.SECOND_LINES)
+TEXT_BLOCK, SECOND_TEXT_BLOCK = (plan_text.read_text(text).data for text in (TEXT, SECOND_TEXT))
 TEXTS = {"text": TEXT}
 
 
-def authored(names, output, **wanted):
+def authored(names, output, data=TEXT_BLOCK, **wanted):
     """author writes the block of the text `text` and says its Adler-32 last."""
-    said = "%s: %d bytes, Adler-32 %d\n" % (names[-1], len(TEXT_BLOCK), zlib.adler32(TEXT_BLOCK))
-    return write_text(*names, left={output: TEXT_BLOCK}, said=said, exact=True, **{"add": TEXTS, **wanted})
+    said = "%s: %d bytes, Adler-32 %d\n" % (names[-1], len(data), zlib.adler32(data))
+    return write_text(*names, left={output: data}, said=said, exact=True, **{"add": TEXTS, **wanted})
 
 
 def author_use_cases():
@@ -363,6 +377,7 @@ def author_good_cases():
         authored(["--", "text", "out"], "out"),
         authored(["text", "old"], "old", add={**TEXTS, "old": b"an older block"}),
         authored(["text", "text"], "text"),
+        authored(["two", "out"], "out", SECOND_TEXT_BLOCK, add={"two": SECOND_TEXT}),
         authored(["a text", "a block"], "a block", add={"a text": TEXT}),
         authored(["--", "--text", "--text"], "--text", add={"--text": TEXT}),
         authored(["text", "line\nend"], "line\nend"),
@@ -371,6 +386,7 @@ def author_good_cases():
         write_text("--text", "block", said=shown, exact=True),
         write_text("--text", "--", "--text", said=shown, exact=True, add={"--text": BLOCK}),
         write_text("--text", "behind", said=shown, exact=True, add={"behind": FILES["behind_zeros.block"]}),
+        write_text("--text", "two", said=SECOND_TEXT.decode(), exact=True, add={"two": SECOND_TEXT_BLOCK}),
     ]
 
 
@@ -386,7 +402,7 @@ def author_bad_cases():
         return write_text("--text", name, status=1, line=line, said="", exact=True, **wanted)
 
     chosen = ("line_missing", "two_spaces", "minus_zero", "digits", "component", "empty", "too_long", "profile", "mmr",
-              "version")
+              "version", "version_0", "piece_missing", "piece_more", "mmr_above")
     bad = {name: author_cases.bad_texts()[name][0] for name in chosen}
     taken = words.unwritten("out", 17, "author").split(": cannot be written: ")[1]
     return [unmade(name + ".txt", "out", refusal_of(name + ".txt", text), add={name + ".txt": text})

@@ -9,6 +9,7 @@ from collections import namedtuple
 
 import block
 import limits
+from sample_cases import meets_last_piece, set_piece, tells_last_piece
 
 # `shows` stands in the line that says why nothing is written; it is None where the group is written.
 Group = namedtuple("Group", "block base enhancement output shows")
@@ -30,6 +31,16 @@ def sized(good, width, height, **changes):
     return block.write(plan)
 
 
+def second_version(good):
+    """A block of version 2: its last pivots are below the largest sample, and what no pivot exceeds comes to 3/4."""
+    plan = block.read(good)[1]
+    for cmp, n in enumerate(plan.num_pivots_minus2):
+        plan.pred_pivot_value[cmp][n + 1] -= 100 + cmp
+        set_piece(plan, cmp, n + 1, [3 << (plan.coefficient_log2_denom - 2), cmp])
+        assert tells_last_piece(plan, cmp, meets_last_piece(plan, cmp, limits.samples(plan.BL_bit_depth)))
+    return block.write(plan, 2)
+
+
 def good_blocks(good):
     small = sized(good, WIDTH, HEIGHT)
     pivots = [[value // 4 for value in values] for values in block.read(good)[1].pred_pivot_value]
@@ -42,6 +53,8 @@ def good_blocks(good):
         "wide.block": sized(good, 4096, 22),                    # bands of 8 and 3 row pairs
         "tiny.block": sized(good, 2, 2),
         "behind_zeros.block": bytes(70000) + small,
+        "version_two.block": second_version(small),
+        "alike_two.block": block.write(block.read(small)[1], 2),        # small.block, its last pieces twice
     }
 
 
@@ -65,6 +78,7 @@ def refused_blocks(good):
         "eleven.block": (good[1 - limits.TRAILER_BYTES:], 1),
         "cut.block": (good[header + 1:], 1),
         "version.block": (put(t + 9, limits.VERSIONS[-1] + 1), 2),
+        "one_as_two.block": (put(t + 9, 2), 5),
         "left_over.block": (left_over, 3),
         "profile.block": (profile, 4),
         "profile_behind_zeros.block": (bytes(70000) + profile, 4),
@@ -135,6 +149,9 @@ def written_groups():
         Group("wide.block", "wide.yuv", "none", "wide.hdr.yuv", None),
         Group("tiny.block", "tiny.yuv", "tiny.yuv", "tiny.hdr.yuv", None),
         Group("behind_zeros.block", "two.yuv", "none", "folder/a name with spaces.yuv", None),
+        Group("version_two.block", "small.yuv", "small_enhancement.yuv", "version_two.yuv", None),
+        Group("version_two.block", "two.yuv", "none", "version_two.yuv", None),
+        Group("alike_two.block", "small.yuv", "none", "alike_two.yuv", None),
         Group("small.block", "in_place.yuv", "none", "in_place.yuv", None),
         Group("small.block", "in_place.yuv", "none", OUT, "refused 11 (sample): picture 0, Y row 0"),
     ]

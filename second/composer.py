@@ -4,8 +4,6 @@ Each function carries its clause and follows the pseudo-code of that clause
 line by line.  Python integers have no size, so no sum can overflow, and >>
 rounds down, as clause 3.2.2 defines it.  Clause 3.2.6 ("from left to right")
 is read as usual precedence: * before + and -, and these before shifts.
-
-Lines marked "house" follow the house rules where they decide for themselves.
 """
 
 from dataclasses import dataclass, field
@@ -25,7 +23,8 @@ class Plan:
     """The parameters of clause 5.3; lists are indexed [cmp], [cmp][i], ...
 
     The fp_ numbers are whole: integer part * 2^coefficient_log2_denom plus
-    the fraction (clauses 5.3.3.2 and 5.3.4).
+    the fraction (clauses 5.3.3.2 and 5.3.4).  Of the pieces, [cmp][n + 1] is
+    that of samples which no pivot exceeds, whatever the block's version.
     """
     ccm_profile: int = 0
     ccm_level: int = 0
@@ -91,12 +90,6 @@ def derive_pivot_idx(s, cmp, num_pivots_minus2, pivot_value):
             pivot_idx = idx
             break
     return pivot_idx
-
-
-def derive_piece(s, cmp, num_pivots_minus2, pivot_value):
-    """Clause 5.4.2.2, then house: there is no piece n+1, piece n stands in."""
-    pivot_idx = derive_pivot_idx(s, cmp, num_pivots_minus2, pivot_value)
-    return min(pivot_idx, num_pivots_minus2[cmp])
 
 
 def polynomial_mapping(s, cmp, num_pivots_minus2, pivot_value, poly_order_minus1,
@@ -166,7 +159,12 @@ def reconstruct(v, r, disable_residual_flag, hdr_bit_depth):
 
 def map_sample(plan, pivot_value, cmp, s):
     """Clause 5.4.2.1: the piece of s, then its mapping."""
-    piece = derive_piece(s, cmp, plan.num_pivots_minus2, pivot_value)
+    piece = derive_pivot_idx(s, cmp, plan.num_pivots_minus2, pivot_value)
+    return map_by_piece(plan, pivot_value, cmp, s, piece)
+
+
+def map_by_piece(plan, pivot_value, cmp, s, piece):
+    """Clause 5.4.2.3.2 with the plan's parameters of component cmp and of this piece."""
     return polynomial_mapping(
         s, cmp, plan.num_pivots_minus2, pivot_value,
         plan.poly_order_minus1[cmp][piece], plan.fp_poly_coef[cmp][piece],
@@ -199,17 +197,18 @@ def enhancement_used(plan, enhancement):
     return plan.disable_residual_flag == 0 and len(enhancement) > 0
 
 
-def compose_row_pairs(plan, first, count, base, enhancement, output):
+def compose_row_pairs(plan, first, count, base, enhancement, output, mapping=map_sample):
     """Clause 5.4 for row pairs first .. first+count-1.
 
-    Gives a new output run; all other samples are those of output.
+    Gives a new output run; all other samples are those of output.  `mapping` is
+    clause 5.4.2.1, or a wrong one that the vectors have to tell from it.
     """
     pivot_value = assign_pivot_values(plan.pred_pivot_value, plan.num_pivots_minus2)
     disable_residual_flag = 0 if enhancement_used(plan, enhancement) else 1
     composed = list(output)
     for k in range(first, first + count):
         for cmp, at in row_pair_samples(plan, k):
-            v = map_sample(plan, pivot_value, cmp, base[at])
+            v = mapping(plan, pivot_value, cmp, base[at])
             r = 0
             if not disable_residual_flag:
                 r = residual(plan, cmp, enhancement[at])

@@ -94,7 +94,7 @@ def header_fault(head):
             return "%s is %d, allowed %s" % (name, value, said(allowed))
 
 
-def section_fields(section, plan):
+def section_fields(section, plan, version):
     """The fields in order, as far as the section's own numbers say where they are."""
     sample = below(limits.samples(plan.BL_bit_depth))
     fraction = below(limits.fractions(plan.coefficient_log2_denom))
@@ -109,7 +109,7 @@ def section_fields(section, plan):
     yield field(1, "num_pivots_minus2", spanned(limits.N))
     for i in range(limits.pivots(n)):
         yield field(2, "pred_pivot_value", sample, i)
-    for piece in range(limits.pieces(n)):
+    for piece in range(limits.carried(n, version)):
         yield field(1, "mapping_idc", listed(limits.MAPPING), piece)
         order = section[at]
         yield field(1, "poly_order_minus1", spanned(limits.ORDERS), piece)
@@ -127,8 +127,8 @@ def value_of(section, field):
     return int.from_bytes(section[field.at:field.at + field.size], "big", signed=field.name == "poly_coef_int")
 
 
-def section_fault(section, cmp, plan, place):
-    for field in section_fields(section, plan):
+def section_fault(section, cmp, plan, version, place):
+    for field in section_fields(section, plan, version):
         if field.at == place:
             name = field.name + "".join("[%d]" % i for i in (cmp,) + field.indices)
             return "%s is %d, allowed %s" % (name, value_of(section, field), field.allowed)
@@ -155,7 +155,7 @@ def fault(number, data):
     if number == 3:
         return begin + place, "section %d is bytes %d up to %d" % (cmp, begin, end)
     plan = block._read_header(data[t - A:t - D0])
-    return begin + place, section_fault(data[begin:end], cmp, plan, place)
+    return begin + place, section_fault(data[begin:end], cmp, plan, version, place)
 
 
 def fixed_point(values, name, piece=(), i=()):
@@ -167,16 +167,17 @@ def fixed_point(values, name, piece=(), i=()):
         name, index, integer, name, index, part, d, fraction((integer << d) + part, d))
 
 
-def section_lines(section, cmp, plan):
+def section_lines(section, cmp, plan, version):
     """Every field of a section as its bytes have it, and the pivots that come of them."""
-    values = {(field.name,) + field.indices: value_of(section, field) for field in section_fields(section, plan)}
+    values = {(field.name,) + field.indices: value_of(section, field)
+              for field in section_fields(section, plan, version)}
     values["d"] = plan.coefficient_log2_denom
     n = values[("num_pivots_minus2",)]
     pivots = composer.assign_pivot_values(plan.pred_pivot_value, plan.num_pivots_minus2)[cmp]
     yield "  num_pivots_minus2 %d" % n
     yield "  pred_pivot_value " + " ".join("%d" % values["pred_pivot_value", i] for i in range(limits.pivots(n)))
     yield "  pivot_value " + " ".join("%d" % pivot for pivot in pivots)
-    for piece in range(limits.pieces(n)):
+    for piece in range(limits.carried(n, version)):
         yield "  piece %d" % piece
         yield "    mapping_idc %d" % values["mapping_idc", piece]
         order = values["poly_order_minus1", piece]
@@ -202,13 +203,13 @@ def shown(name, data, plan):
     """Every field of a block that is read, with the byte where each part begins."""
     t = len(data) - limits.TRAILER_BYTES
     trailer = struct.unpack_from(">5H", data, t)
-    A, D0, D1, D2, _ = trailer
+    A, D0, D1, D2, version = trailer
     yield "%s, %d bytes" % (name, len(data))
     yield "header at byte %d" % (t - A)
     yield from header_lines(plan)
     for cmp, (begin, end) in enumerate(((t - D0, t - D1), (t - D1, t - D2), (t - D2, t))):
         yield "section %d, %s, at byte %d" % (cmp, inspect_plot.NAMES[cmp], begin)
-        yield from section_lines(data[begin:end], cmp, plan)
+        yield from section_lines(data[begin:end], cmp, plan, version)
     yield "trailer at byte %d" % t
     for field, value in zip(("A", "D0", "D1", "D2", "version"), trailer):
         yield "  %s %d" % (field, value)
@@ -221,7 +222,8 @@ def inspect(name, data, plotted=False):
     if number != 0:
         place, found = fault(number, data)
         return [words.refused(name, number, found, place), "not shown"]
-    return list(inspect_plot.lines(plan) if plotted else shown(name, data, plan)) + ["shown"]
+    lines = inspect_plot.lines(plan, block.version_of(data)) if plotted else shown(name, data, plan)
+    return [*lines, "shown"]
 
 
 def file_lines(name, read, plotted):

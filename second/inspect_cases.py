@@ -1,13 +1,16 @@
-"""The words that the gate hands to inspect, and the files that they name: blocks that are read, and some that must be refused."""
+"""The words that the gate hands to inspect, and the files that they name: blocks that are read, and refused ones."""
 
 import errno
 import os
 import struct
 from collections import namedtuple
+from itertools import accumulate
 
 import block
 import limits
+from block_cases import Base, last_piece, one_bad_length
 from composer import Plan
+from sample_cases import Nlq, Section, set_section
 
 # `number` is the answer that the block is to show: 0 where it is read.
 Shown = namedtuple("Shown", "name data number")
@@ -18,25 +21,62 @@ def first_piece(good, section):
     return section + 1 + 2 * limits.pivots(good[section])
 
 
-def clamped():
-    """A block of depth 8 whose codes go past the pivots on both sides, whose pivots meet, and whose mappings jump and are cut."""
-    one = 1 << 13
+ONE = 1 << 13                               # 1.0 at the least denominator of depth 8
+
+
+def plan_of(sections):
+    """A plan of depth 8: of each section the steps of its pivots, and its pieces."""
     plan = Plan(ccm_profile=4, coefficient_log2_denom=13, hdr_bit_depth_minus8=2, disable_residual_flag=1,
                 half_width=1, half_height=1, max_display_mastering_luminance=1)
-    sections = [
-        ((16, 64, 0, 80, 75), [(-one // 4, 3 * one), (0, 0), (one // 2, one // 4), (0, one, one // 2)]),
-        ((40, 160, 100), [(one // 8, one), (0, 0, 3 * one)]),
-        ((0,) + (17,) * 16, [(one // 8, one * (piece % 3) // 2 - piece) for piece in range(16)]),
-    ]
     for cmp, (steps, pieces) in enumerate(sections):
-        plan.num_pivots_minus2[cmp] = len(pieces) - 1
-        plan.pred_pivot_value[cmp][:len(steps)] = steps
-        for piece, coef in enumerate(pieces):
-            plan.poly_order_minus1[cmp][piece] = len(coef) - 2
-            plan.fp_poly_coef[cmp][piece][:len(coef)] = coef
-        plan.nlq_offset[cmp] = 255
-        plan.fp_hdr_in_max[cmp] = 2 * one - 1
-    return block.write(plan)
+        set_section(plan, cmp, Section(list(accumulate(steps)), pieces, Nlq(255, 2 * ONE - 1, 0, 0)))
+    return plan
+
+
+def jumping():
+    """As many pieces as version 1 has at most."""
+    return [(ONE // 8, ONE * (piece % 3) // 2 - piece) for piece in range(limits.carried(limits.N[-1], 1))]
+
+
+def clamped():
+    """A block whose codes go past the pivots on both sides, whose pivots meet, and whose mappings jump and are cut."""
+    return block.write(plan_of([
+        ((16, 64, 0, 80, 75), [(-ONE // 4, 3 * ONE), (0, 0), (ONE // 2, ONE // 4), (0, ONE, ONE // 2)]),
+        ((40, 160, 100), [(ONE // 8, ONE), (0, 0, 3 * ONE)]),
+        ((0,) + (17,) * 16, jumping()),
+    ]))
+
+
+def above_last_plan():
+    """Pieces above a last pivot that equals the one before, above one that no code reaches, for the last two codes."""
+    return plan_of([
+        ((16, 64, 80, 0), [(0, ONE), (ONE // 2, ONE // 4), (0, ONE, ONE // 2), (ONE - 5, -ONE // 4)]),
+        ((40, 160, 100), [(ONE // 8, ONE), (0, 0, 3 * ONE), (ONE, -ONE)]),
+        ((0,) + (15,) * 15 + (29,), [*jumping(), (63 * ONE, 0, 1)]),
+    ])
+
+
+def second_blocks(good):
+    """Version 2: one that is read, faults in its last pieces, and a block of each version that says the other."""
+    plan = above_last_plan()
+    base = Base(0, block.write(plan, 2), plan)
+
+    def beyond(piece, field, value):
+        return bytes(base.changed(base.put_all([(piece + field, value)])))
+
+    y, cb, cr = (last_piece(base, cmp) for cmp in range(3))
+    return [
+        Shown("version_two", base.data, 0),
+        Shown("mapping_above", beyond(y, "idc", limits.MMR), 5),
+        Shown("mmr_above", beyond(cb, "idc", limits.MMR), 6),
+        Shown("order_above", beyond(cr, "order", limits.ORDERS[-1] + 1), 5),
+        Shown("coefficient_above", beyond(cr, "c2_int", limits.COEF_INTS[-1] + 1), 5),
+        Shown("fraction_above", beyond(y, "c1_fraction", limits.fractions(13).stop), 5),
+        Shown("offset_two", beyond("s0_", "offset", 256), 5),
+        Shown("two_as_one", bytes(base.changed(base.put(version=1))), 5),
+        Shown("one_as_two", good[:-3] + bytes([2]) + good[-2:], 5),
+        Shown("cut_two", one_bad_length(base, 1, lambda section: section[:-18]), 3),
+    ]
 
 
 def all_blocks(good):
@@ -98,6 +138,7 @@ def all_blocks(good):
         # more bytes than a trailer can point back over
         Shown("behind_zeros", bytes(70000) + good, 0),
         Shown("refused_behind_zeros", bytes(70000) + cut(cb, 5), 3),
+        *second_blocks(good),
     ]
     for one in shown:
         assert block.read(one.data)[0] == one.number, one.name
@@ -107,8 +148,8 @@ def all_blocks(good):
 def arguments(blocks):
     """The words: every block, then all that else a word can be."""
     return [shown.name for shown in blocks] + [
-        "--rules", "--plot", "block", "--plot", "clamped", "--plot", "mmr", "--plot", "missing",
-        "missing", "block/", ".", "--plot"]
+        "--rules", "--plot", "block", "--plot", "clamped", "--plot", "version_two", "--plot", "mmr",
+        "--plot", "missing", "missing", "block/", ".", "--plot"]
 
 
 def reader(blocks):

@@ -30,14 +30,19 @@ END = (
 GRID = '<path class="g" d="M0 16384h262144M0 32768h262144M0 49152h262144"/>'
 
 
-def pieces(pivots, step):
-    """Each piece as a field from pivot to pivot, and a dashed line at each pivot."""
+def pieces(pivots, step, carried):
+    """Each piece that the block carries as a field from pivot to pivot, and a dashed line at each pivot.
+
+    That of version 2 above the last pivot goes on to the panel's end.
+    """
+    places = [pivot * step for pivot in pivots]
+    ends = places[1:] + [max(places[-1], PANEL)]
     out = ""
-    for piece, (first, last) in enumerate(zip(pivots, pivots[1:])):
-        x, width = first * step, (last - first) * step
+    for piece in range(carried):
+        x, width = places[piece], ends[piece] - places[piece]
         out += ('<path class="%s" d="M%d 0h%dv65536h-%d"/><path class="p" d="M%d 0v65536"/>'
                 % ("ab"[piece % 2], x, width, width, x))
-    return out + '<path class="p" d="M%d 0v65536"/>' % (pivots[-1] * step)
+    return out + '<path class="p" d="M%d 0v65536"/>' % places[-1]
 
 
 def curves(mapped, step):
@@ -48,24 +53,24 @@ def curves(mapped, step):
     return '<path class="v" d="M%s"/><path class="x" d="%s"/>' % (curve, ends)
 
 
-def panel(plan, cmp):
+def panel(plan, cmp, version):
     pivot_value = composer.assign_pivot_values(plan.pred_pivot_value, plan.num_pivots_minus2)
     codes = limits.samples(plan.BL_bit_depth)
     mapped = [composer.map_sample(plan, pivot_value, cmp, code) for code in codes]
     step = PANEL // len(codes)
-    pivots = pivot_value[cmp]
-    yield ('<g transform="translate(70 %d)"><text class="t" y="-28">%s: pieces %d, codes 0 to %d, mapped samples %d to %d'
-           '</text><text y="-9">pivots %s'
-           % (58 + 298 * cmp, NAMES[cmp], limits.pieces(plan.num_pivots_minus2[cmp]), codes[-1],
-              min(mapped), max(mapped), " ".join("%d" % pivot for pivot in pivots)))
+    pivots, carried = pivot_value[cmp], limits.carried(plan.num_pivots_minus2[cmp], version)
+    yield ('<g transform="translate(70 %d)"><text class="t" y="-28">%s: pieces %d, codes 0 to %d, '
+           'mapped samples %d to %d</text><text y="-9">pivots %s'
+           % (58 + 298 * cmp, NAMES[cmp], carried, codes[-1], min(mapped), max(mapped),
+              " ".join("%d" % pivot for pivot in pivots)))
     yield ('</text><svg width="860" height="215" viewBox="0 0 262144 65536"><path class="o" d="M0 0h262144v65536H0"/>'
-           + pieces(pivots, step) + GRID + curves(mapped, step)
+           + pieces(pivots, step, carried) + GRID + curves(mapped, step)
            + '</svg><text class="r" x="-8" y="10">65535</text><text class="r" x="-8" y="215">0</text>'
            '<text y="231">0</text><text class="r" x="860" y="231">%d</text></g>' % codes[-1])
 
 
-def lines(plan):
+def lines(plan, version):
     yield START
     for cmp in range(3):
-        yield from panel(plan, cmp)
+        yield from panel(plan, cmp, version)
     yield END

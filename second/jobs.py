@@ -2,11 +2,11 @@
 
 import limits
 from block import header_in_range
-from composer import compose_row_pairs, enhancement_used, row_pair_samples
+from composer import compose_row_pairs, enhancement_used, map_sample, row_pair_samples
 from limits import PIECE_PLACES
 
 
-def job(plan, first, count, base, enhancement, output):
+def job(plan, first, count, base, enhancement, output, mapping=map_sample):
     """A job with equal tickets and with marks of the right length.
 
     Give (0, the new output run), or (7, 9, 10 or 11, None).
@@ -15,7 +15,7 @@ def job(plan, first, count, base, enhancement, output):
     number = refusal(plan, 0, 0, first, count, base, enhancement, output, marks)
     if number != 0:
         return number, None
-    return 0, compose_row_pairs(plan, first, count, base, enhancement, output)
+    return 0, compose_row_pairs(plan, first, count, base, enhancement, output, mapping)
 
 
 def refusal(plan, open_ticket, ticket, first, count, base, enhancement, output, marks):

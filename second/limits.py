@@ -7,7 +7,7 @@ fraction is whole, integer part * 2^d + fraction, where d is coefficient_log2_de
 
 # The block ------------------------------------------------------------------
 
-VERSIONS = (1,)
+VERSIONS = (1, 2)
 TRAILER_BYTES = 12
 HEADER_BYTES = 24
 
@@ -76,7 +76,13 @@ def pivots(n):
 
 
 def pieces(n):
-    return n + 1
+    """Of a plan, whatever its block's version: one up to each pivot but the first, one above the last."""
+    return n + 2
+
+
+def carried(n, version):
+    """Of a section: version 1 has none above the last pivot, and piece n stands for it."""
+    return pieces(n) - 1 if version == VERSIONS[0] else pieces(n)
 
 
 def coefs(order):
@@ -84,18 +90,24 @@ def coefs(order):
 
 
 PIVOT_PLACES = pivots(N[-1])
-PIECE_PLACES = pieces(N[-1]) + 1    # the vectors number one more than can be used
+PIECE_PLACES = pieces(N[-1])
 COEF_PLACES = coefs(ORDERS[-1])
 
 
-def section_bytes(n, order):
+def section_bytes(n, order, version):
     """The length of a section whose pieces all have this order."""
-    return 1 + 2 * pivots(n) + pieces(n) * (2 + 5 * coefs(order)) + 2 + 3 * 5
+    return 1 + 2 * pivots(n) + carried(n, version) * (2 + 5 * coefs(order)) + 2 + 3 * 5
 
 
-SHORTEST_SECTION = section_bytes(N[0], ORDERS[0])
-LONGEST_SECTION = section_bytes(N[-1], ORDERS[-1])
-SHORTEST_BLOCK = HEADER_BYTES + 3 * SHORTEST_SECTION + TRAILER_BYTES
-LONGEST_BLOCK = HEADER_BYTES + 3 * LONGEST_SECTION + TRAILER_BYTES
+def block_bytes(section):
+    """The length of a block of three sections of this length."""
+    return HEADER_BYTES + 3 * section + TRAILER_BYTES
+
+
+# By version.
+SHORTEST_SECTION = {version: section_bytes(N[0], ORDERS[0], version) for version in VERSIONS}
+LONGEST_SECTION = {version: section_bytes(N[-1], ORDERS[-1], version) for version in VERSIONS}
+SHORTEST_BLOCK = {version: block_bytes(SHORTEST_SECTION[version]) for version in VERSIONS}
+LONGEST_BLOCK = {version: block_bytes(LONGEST_SECTION[version]) for version in VERSIONS}
 
 TEXT_BYTES = 8192                   # of a plan as text (docs/TEXT.md), more than the longest has

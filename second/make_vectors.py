@@ -39,7 +39,7 @@ def sample_stream(cases):
     """stdin of sample_vectors."""
     out = bytearray()
     for case in cases:
-        data = block.write(case.plan)
+        data = block.write(case.plan, case.version)
         out += struct.pack(">H", len(data)) + data
         out += struct.pack(">HH", case.first, case.count)
         out += u16_run(case.base) + u16_run(case.enhancement)
@@ -62,7 +62,7 @@ def night_stream(nights):
     """stdin of night_vectors."""
     out = bytearray()
     for night in nights:
-        data = block.write(night.plan)
+        data = block.write(night.plan, night.version)
         out += struct.pack(">H", len(data)) + data
         out += bytes([len(night.runs)])
         for run in night.runs:
@@ -78,8 +78,8 @@ def night_stream(nights):
 def plan_stream(groups):
     """stdin of plan_vectors."""
     out = bytearray()
-    for plan, cases in groups:
-        data = block.write(plan)
+    for plan, cases, version in groups:
+        data = block.write(plan, version)
         out += struct.pack(">H", len(data)) + data + struct.pack(">H", len(cases))
         for case in cases:
             out += plan_edits(case.edits)
@@ -225,7 +225,7 @@ def sample_summary(cases, lines):
     for case, line in zip(cases, lines):
         if not line.startswith("refused"):
             row_pair = sum(1 for _ in composer.row_pair_samples(case.plan, 0))
-            group = "random plans" if case.kind == "random plan" else "edge cases"
+            group = "random plans" if case.kind.startswith("random plan") else "edge cases"
             composed[group] += case.count * row_pair
     return table("sample_vectors", cases, lines) + [
         "  composed samples: %d from random plans, %d from edge cases"

@@ -13,10 +13,10 @@ from answers import NO_RUN
 from composer import row_pair_samples
 from generator import Generator
 from limits import DEPTHS, HDR_DEPTHS, denominators
-from sample_cases import (make_plan, plain_sections, random_picture, random_plan, random_run,
-                          replaced)
+from sample_cases import (make_plan, meets_last_piece, plain_sections, plane_size, random_picture, random_plan,
+                          random_run, replaced, visible_piece)
 
-Night = namedtuple("Night", "kind plan runs marks output_size ticket opening jobs")
+Night = namedtuple("Night", "kind plan runs marks output_size ticket opening jobs version", defaults=[1])
 Job = namedtuple("Job", "plan open_ticket ticket first count base enhancement")
 
 BLOCK_PLAN, ZERO_PLAN = 0, 1        # which plan an opening or a job is given
@@ -37,9 +37,9 @@ class Stock:
     wrong length and bad samples only.
     """
 
-    def __init__(self, plan, generator, base=None, enhancement=None):
+    def __init__(self, plan, generator, base=None, enhancement=None, version=1):
         size, depth = plan.picture_samples, plan.BL_bit_depth
-        self.plan = plan
+        self.plan, self.version = plan, version
         self.ticket = generator.below(TICKETS)
         self.rows = plan.half_height
         self.bad = generator.below(self.rows)
@@ -132,7 +132,7 @@ def spoiled(size):
 def night(kind, stock, jobs):
     """An opening and jobs on a memory that fits the plan."""
     return Night(kind, stock.plan, stock.runs, spoiled(stock.rows),
-                 stock.plan.picture_samples, stock.ticket, BLOCK_PLAN, jobs)
+                 stock.plan.picture_samples, stock.ticket, BLOCK_PLAN, jobs, stock.version)
 
 
 def plain_stock(depth, d, hdr_bit_depth, width, height, generator, flag=0):
@@ -445,14 +445,14 @@ WIDTHS = {1: (2, 8, 16, 32), 2: (2, 6, 8, 16), 3: (2, 4, 10), 4: (2, 4, 8), 5: (
           6: (2, 4), 7: (2, 4), 8: (2, 4)}      # by H/2; 3WH/2 is at most 96
 
 
-def random_stock(rows, generator):
+def random_stock(rows, generator, version=1):
     """A random plan and picture; at times there is no enhancement."""
     shapes = [(width, 2 * rows) for width in WIDTHS[rows]]
-    plan = random_plan(shapes, generator)
+    plan = random_plan(shapes, generator, version)
     base, enhancement = random_picture(plan, generator)
     if generator.one_in(6):
         enhancement = []
-    return Stock(plan, generator, base, enhancement)
+    return Stock(plan, generator, base, enhancement, version)
 
 
 def random_part(allowed, generator):
@@ -520,7 +520,7 @@ def ignoring(stock, jobs, generator):
             if job.enhancement in (ENHANCEMENT, NO_RUN) else job for job in jobs]
 
 
-def random_night(at, generator):
+def random_night(at, generator, version=1):
     """Within the premises of demand 3; two of three nights end complete.
 
     In these one row pair is named late only, so that most of the night has rows
@@ -528,7 +528,7 @@ def random_night(at, generator):
     a bad base sample.
     """
     rows = 1 + at % 8
-    stock = random_stock(rows, generator)
+    stock = random_stock(rows, generator, version)
     allowed = set(range(rows))
     late = set()
     if at // 8 % 3 == 2:
@@ -545,7 +545,7 @@ def random_night(at, generator):
         last = mixed_jobs(stock, late, number - early, generator)
         jobs += [job if generator.one_in(3) else widened(job, rows, generator)
                  for job in last]
-    made = night("random", stock, ignoring(stock, jobs, generator))
+    made = night("random" + ", version 2" * (version == 2), stock, ignoring(stock, jobs, generator))
     return made._replace(marks=[generator.below(256) for _ in range(rows)])
 
 
@@ -567,6 +567,28 @@ def widened(job, rows, generator):
 
 def random_nights(generator, number):
     return [random_night(at, generator) for at in range(number)]
+
+
+def last_pivot_nights(generator):
+    """Version 2: jobs again, refused and with other samples, on pictures that meet piece n + 1; then random nights."""
+    nights = []
+    for depth, d, flag in ((10, 20, 0), (8, 24, 1)):
+        sections = [section._replace(pivots=[pivot // 2 for pivot in section.pivots],
+                                     pieces=section.pieces + [visible_piece(d, 1 + cmp % 2, generator)])
+                    for cmp, section in enumerate(plain_sections(depth, d, generator))]
+        stock = Stock(make_plan(depth, d, 12, 4, 8, sections, flag), generator, version=2)
+        assert all(meets_last_piece(stock.plan, cmp, plane(stock, cmp)) for cmp in range(3))
+        nights.append(night("last pivot, version 2", stock, [
+            stock.job(0, 2), stock.job(0, 1), stock.breaking((8,), generator), stock.job(1, 2),
+            stock.breaking((11,), generator), stock.job(2, 1, base=OTHER), stock.job(3, 1)]))
+    return nights + [random_night(at, generator, 2) for at in range(1, 8, 2)]
+
+
+def plane(stock, cmp):
+    """The base samples of a component."""
+    luma = plane_size(stock.plan, 0)
+    begin = (0, luma, luma + luma // 4)[cmp]
+    return stock.runs[BASE][begin:begin + plane_size(stock.plan, cmp)]
 
 
 def free_night(at, generator):
@@ -620,5 +642,6 @@ def all_nights():
         + later_nights(Generator(312))
         + ticket_nights(Generator(313))
         + random_nights(Generator(314), 64)
-        + free_nights(Generator(315), 16))
+        + free_nights(Generator(315), 16)
+        + last_pivot_nights(Generator(316)))
     return [trimmed(one) for one in nights]

@@ -8,6 +8,7 @@ HEADER = ("ccm_profile", "ccm_level", "coefficient_log2_denom", "BL_bit_depth_mi
           "EL_bit_depth_minus8", "hdr_bit_depth_minus8", "disable_residual_flag",
           "half_width", "half_height", "max_display_mastering_luminance",
           "min_display_mastering_luminance")
+PIECE = ("mapping_idc", "poly_order_minus1", "fp_poly_coef")
 NLQ = ("nlq_offset", "fp_hdr_in_max", "fp_linear_deadzone_slope",
        "fp_linear_deadzone_threshold")
 

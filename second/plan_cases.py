@@ -11,10 +11,10 @@ import limits
 from block_cases import HEADER_VALUES, denominator_values, depth_values, luminances
 from generator import Generator
 from limits import N, denominators
-from places import PLACES, changed, get, is_signed
+from places import PIECE, PLACES, changed, get, is_signed
 from sample_cases import Nlq, Section, make_plan
 
-Group = namedtuple("Group", "plan cases")
+Group = namedtuple("Group", "plan cases version")       # the version of the block that the plan is read from
 Case = namedtuple("Case", "kind edits")
 
 LOWEST, HIGHEST = -1 << 63, (1 << 63) - 1       # of the field that holds a coefficient
@@ -34,17 +34,17 @@ def make_case(kind, plan, edits, number=None):
     return Case(kind, edits)
 
 
-def base_plan(depth, d, sizes, generator):
+def base_plan(depth, d, sizes, generator, version=1):
     """A plan with these n; every place that is used is not 0, so that none can be left out."""
     small = d - SPARE
     sections = []
     for n in sizes:
         pivots = [1 + generator.below(9)]
-        for _ in range(limits.pieces(n)):
+        while len(pivots) < limits.pivots(n):
             pivots.append(pivots[-1] + generator.between(1, limits.samples(depth)[-1]))
         pieces = [[nonzero(limits.coefficients(small), generator)
                    for _ in range(limits.coefs((n + piece) % 2))]
-                  for piece in range(limits.pieces(n))]
+                  for piece in range(limits.carried(n, version))]
         numbers = [nonzero(limits.nlq_numbers(small), generator) for _ in range(3)]
         sections.append(Section(pivots, pieces, Nlq(generator.between(1, 200), *numbers)))
     return make_plan(depth, d, generator.choice(limits.HDR_DEPTHS), 192, 108, sections)
@@ -150,7 +150,7 @@ def grown_cases(plan, cmp):
         return []
     allowed = limits.coefficients(plan.coefficient_log2_denom)
     top = limits.samples(plan.BL_bit_depth)[-1]
-    pivot, piece = ("pred_pivot_value", cmp, n + 1), n
+    pivot, piece = ("pred_pivot_value", cmp, limits.pivots(n) - 1), limits.pieces(n) - 1
     good = ([(("num_pivots_minus2", cmp), n), (pivot, top)]
             + piece_edits(cmp, piece, 1, (allowed[0], allowed[-1], allowed[0])))
     cases = [make_case("one piece more", plan, good, 0),
@@ -168,8 +168,8 @@ def shrunk_cases(plan, cmp):
     n = plan.num_pivots_minus2[cmp] - 1
     if n not in N:
         return []
-    freed = ([(("pred_pivot_value", cmp, n + 2), 0)]
-             + piece_edits(cmp, n + 1, 0, (0, 0, 0)))
+    freed = ([(("pred_pivot_value", cmp, limits.pivots(n)), 0)]
+             + piece_edits(cmp, limits.pieces(n), 0, (0, 0, 0)))
     smaller = [(("num_pivots_minus2", cmp), n)]
     cases = [make_case("one piece less", plan, smaller + freed, 0)]
     for place, _ in freed:
@@ -178,11 +178,11 @@ def shrunk_cases(plan, cmp):
     return cases
 
 
-def order_cases(plan, cmp):
-    """The third coefficient with the order that uses it, and with the one that does not."""
+def order_cases(plan, cmp, first=0):
+    """The third coefficient with the order that uses it, and with the one that does not, from this piece on."""
     allowed = limits.coefficients(plan.coefficient_log2_denom)
     cases = []
-    for piece in range(limits.pieces(plan.num_pivots_minus2[cmp])):
+    for piece in range(first, limits.pieces(plan.num_pivots_minus2[cmp])):
         order, third = ("poly_order_minus1", cmp, piece), ("fp_poly_coef", cmp, piece, 2)
         cases += [make_case("order and third coefficient", plan, [(order, value), (third, z)],
                             number)
@@ -234,7 +234,22 @@ def group(depth, d, sizes, generator):
                   + mended_cases(plan, cmp))
     cases += rescaled_cases(plan, d % 3)
     cases += random_cases(plan, good, generator, 30) + random_cases(plan, singles, generator, 10)
-    return Group(plan, cases)
+    return Group(plan, cases, 1)
+
+
+def is_about_last_piece(plan, place):
+    """A place of piece n + 1, or of the one that there is none of any more."""
+    return place[0] in PIECE and place[2] - plan.num_pivots_minus2[place[1]] in (1, 2)
+
+
+def last_piece_group(depth, d, sizes, generator):
+    """Piece n + 1 of version 2, which is unlike piece n: every place of it, and those after it."""
+    plan = base_plan(depth, d, sizes, generator, 2)
+    cases = [case for case in place_cases(plan) if is_about_last_piece(plan, case.edits[0][0])]
+    for cmp in range(3):
+        cases += grown_cases(plan, cmp) + shrunk_cases(plan, cmp)
+        cases += order_cases(plan, cmp, limits.pieces(plan.num_pivots_minus2[cmp]) - 1)
+    return Group(plan, [case._replace(kind=case.kind + ", version 2") for case in cases], 2)
 
 
 def all_groups():
@@ -243,4 +258,6 @@ def all_groups():
     return [group(10, denominators(10)[0], (0, 3, N[-1]), generator),
             group(8, denominators(8)[-1], (N[-1], 0, 7), generator),
             group(10, 23, (1, N[-1], 0), generator),
-            group(8, denominators(8)[0], (2, N[-1] - 1, 5), generator)]
+            group(8, denominators(8)[0], (2, N[-1] - 1, 5), generator),
+            last_piece_group(10, 24, (N[-1], N[-1] - 1, 0), generator),
+            last_piece_group(8, 22, (0, N[-1], 6), generator)]

@@ -1,7 +1,6 @@
 """A plan as text, from docs/TEXT.md: the text of a plan, and a text made to a block or refused with its line."""
 
 import re
-import struct
 from collections import namedtuple
 
 import block
@@ -36,12 +35,12 @@ def fixed_point(name, number, d):
     return "%s %d %d" % (name, number >> d, number % (1 << d))
 
 
-def section_lines(plan, cmp):
+def section_lines(plan, cmp, version):
     d, n = plan.coefficient_log2_denom, plan.num_pivots_minus2[cmp]
     yield "component %d" % cmp
     yield "num_pivots_minus2 %d" % n
     yield "pred_pivot_value " + " ".join(str(value) for value in plan.pred_pivot_value[cmp][:limits.pivots(n)])
-    for piece in range(limits.pieces(n)):
+    for piece in range(limits.carried(n, version)):
         order = plan.poly_order_minus1[cmp][piece]
         yield "piece %d" % piece
         yield "mapping_idc %d" % plan.mapping_idc[cmp][piece]
@@ -58,7 +57,7 @@ def plan_lines(plan, version=limits.VERSIONS[0]):
     for name, _, _ in HEADER:
         yield "%s %d" % (name, getattr(plan, {"W/2": "half_width", "H/2": "half_height"}.get(name, name)))
     for cmp in range(3):
-        yield from section_lines(plan, cmp)
+        yield from section_lines(plan, cmp, version)
 
 
 def text_of(plan, version=limits.VERSIONS[0]):
@@ -153,13 +152,13 @@ class Reader:
         self.end_line()
 
 
-def read_section(reader, cmp):
+def read_section(reader, version):
     n = reader.count("num_pivots_minus2", limits.N)
     reader.begin("pred_pivot_value")
     for _ in range(limits.pivots(n)):
         reader.field(2)
     reader.end_line()
-    for piece in range(limits.pieces(n)):
+    for piece in range(limits.carried(n, version)):
         reader.counted("piece", piece)
         reader.only("mapping_idc", 1)
         for _ in range(limits.coefs(reader.count("poly_order_minus1", limits.ORDERS))):
@@ -174,26 +173,29 @@ def read_text(text):
     reader = Reader(text)
     reader.begin("version")
     version = reader.number(2)
-    reader.end_line()
-    header_lines = {}
-    for name, size, zeros in HEADER:
-        reader.only(name, size)
-        reader.data += bytes(zeros)
-        header_lines[name] = reader.line
-    begins = []
+    header_lines, begins = {}, []
     try:
+        if version not in limits.VERSIONS:
+            raise Stopped
+        reader.end_line()
+        for name, size, zeros in HEADER:
+            reader.only(name, size)
+            reader.data += bytes(zeros)
+            header_lines[name] = reader.line
         for cmp in range(3):
             reader.counted("component", cmp)
             begins.append(len(reader.data))
-            read_section(reader, cmp)
+            read_section(reader, version)
         reader.end()
     except Stopped:
+        if not begins:
+            reader.data += bytes(limits.HEADER_BYTES)
         while len(begins) < 3:
             begins.append(len(reader.data))
             reader.data.append(0)
     data = bytes(reader.data)
-    whole = block.assemble(data[:begins[0]], [data[begins[0]:begins[1]], data[begins[1]:begins[2]], data[begins[2]:]])
-    return Made(whole[:-4] + struct.pack(">HH", version, 0), header_lines, reader.lines)
+    sections = [data[begins[0]:begins[1]], data[begins[1]:begins[2]], data[begins[2]:]]
+    return Made(block.assemble(data[:begins[0]], sections, version), header_lines, reader.lines)
 
 
 def circle(data):
@@ -206,4 +208,4 @@ def circle(data):
 def text_of_block(data):
     number, plan = block.read(data)
     assert number == 0, number
-    return text_of(plan, *struct.unpack(">H", data[-4:-2]))
+    return text_of(plan, block.version_of(data))

@@ -4,23 +4,52 @@ An output sample shows only the top 10 or 12 of 16 bits.  To make the low bits
 count, many cases bring samples for which v + r lies just at, or just below,
 the place where the rounding of clause 5.4.3.3 goes up: there a mapped sample
 or a residual that is off by one changes the answer.
+
+SHOWS says which wrong readers and mappings a kind of case tells from the right
+ones; selftest.py builds them (wrong_readers.py, wrong_mappers.py) and holds the
+cases to it.
 """
 
 from collections import namedtuple
 from itertools import product
 
+import block
 import jobs
 import limits
-from composer import (Plan, assign_pivot_values, map_sample, residual,
+from composer import (Plan, assign_pivot_values, derive_pivot_idx, map_by_piece, map_sample, residual,
                       row_pair_samples)
 from generator import Generator
-from limits import DEPTHS, HDR_DEPTHS, PIVOT_PLACES, coefficients, denominators, nlq_numbers
+from limits import COEF_PLACES, DEPTHS, HDR_DEPTHS, PIVOT_PLACES, coefficients, denominators, nlq_numbers
+from places import changed
 
-Case = namedtuple("Case", "kind plan first count base enhancement")
+Case = namedtuple("Case", "kind plan first count base enhancement version", defaults=[1])
 
-# Pivots are the running sums; a piece is its list of 2 or 3 whole numbers.
+# Pivots are the running sums; a piece is its list of 2 or 3 whole numbers.  Of pieces there
+# are n + 2, or n + 1 where the last one stands twice, as version 1 has it.
 Section = namedtuple("Section", "pivots pieces nlq")
 Nlq = namedtuple("Nlq", "offset maximum slope threshold")
+
+SHOWS = {
+    "mapping pivots": (
+        "the copy forgotten", "piece 0 copied", "the order not copied", "the first coefficient not copied",
+        "the third coefficient not copied", "the piece before a pivot at it", "the piece of the clamped sample",
+        "piece n + 1 at the sample as it is", "piece n + 1 just below the last pivot too",
+        "piece 0 where no pivot exceeds the sample"),
+    "random plan": ("the copy forgotten", "piece 0 copied", "the piece of the clamped sample"),
+    "last pivot": (
+        "the copy forgotten", "the copy forgotten in chroma", "piece 0 copied", "the order not copied",
+        "the first coefficient not copied", "the third coefficient not copied", "piece n + 1 at the sample as it is",
+        "piece 0 where no pivot exceeds the sample"),
+    "last pivot, version 2": (
+        "piece n where no pivot exceeds the sample", "piece n + 1 only above the last pivot",
+        "piece n + 1 only at the last pivot", "piece n + 1 just below the last pivot too",
+        "the piece before a pivot at it", "the piece of the clamped sample", "piece n + 1 at the sample as it is",
+        "piece 0 where no pivot exceeds the sample", "a copy in version 2 too", "version 2 taken for 1",
+        "version 2 refused"),
+    "random plan, version 2": (
+        "piece n where no pivot exceeds the sample", "piece n + 1 only above the last pivot",
+        "a copy in version 2 too"),
+}
 
 
 def make_plan(depth, d, hdr_bit_depth, width, height, sections, flag=0):
@@ -35,14 +64,20 @@ def make_plan(depth, d, hdr_bit_depth, width, height, sections, flag=0):
     return plan
 
 
+def set_piece(plan, cmp, piece, coef):
+    plan.poly_order_minus1[cmp][piece] = len(coef) - 2
+    plan.fp_poly_coef[cmp][piece] = [*coef, 0][:COEF_PLACES]
+
+
 def set_section(plan, cmp, section):
     pivots = section.pivots
     plan.num_pivots_minus2[cmp] = len(pivots) - 2
     for i, pivot in enumerate(pivots):
         plan.pred_pivot_value[cmp][i] = pivot - (pivots[i - 1] if i else 0)
     for piece, coef in enumerate(section.pieces):
-        plan.poly_order_minus1[cmp][piece] = len(coef) - 2
-        plan.fp_poly_coef[cmp][piece][:len(coef)] = coef
+        set_piece(plan, cmp, piece, coef)
+    if len(section.pieces) < len(pivots):
+        block.repeat_last_piece(plan, cmp)
     plan.nlq_offset[cmp] = section.nlq.offset
     plan.fp_hdr_in_max[cmp] = section.nlq.maximum
     plan.fp_linear_deadzone_slope[cmp] = section.nlq.slope
@@ -308,6 +343,84 @@ def pictures_of(kind, plan, wanted, generator):
         cases.append(pinned_picture(kind, plan, planes))
         if not any(wanted):
             break
+    return cases
+
+
+# Piece n + 1 --------------------------------------------------------------
+
+def last_pivot_sets(depth):
+    """Last pivots within the sample range, alone and equal to others, at its end, and above it."""
+    M = 1 << depth
+    top = M - 1
+    many = range(PIVOT_PLACES)
+    return (
+        [0, M // 2],
+        [M // 4, M // 2, 3 * M // 4],
+        [M // 3, M // 3],
+        [0, 0],
+        [0, M // 4, M // 2, M // 2],
+        [5, M // 2, M // 2, M // 2, M // 2],
+        [0, M // 2, top],
+        [0, top - 1],
+        [i * (M // 2) // many[-1] for i in many],
+        [min(i, 12) * (M // 16) for i in many],
+        [0, M // 2, M],
+        [M // 2, M // 2 + top],
+        [(i + 1) * (M // 8) for i in many],
+    )
+
+
+def last_pivot_samples(pivots, depth):
+    """Just below the last pivot, at it and above it, then about the others."""
+    top, last = (1 << depth) - 1, pivots[-1]
+    return distinct([last - 1, last, last + 1, top] + telling_base_samples(pivots, depth), 0, top)
+
+
+def meets_last_piece(plan, cmp, samples):
+    """Those that no pivot exceeds."""
+    pivot_value = assign_pivot_values(plan.pred_pivot_value, plan.num_pivots_minus2)
+    n = plan.num_pivots_minus2[cmp]
+    return [s for s in samples if derive_pivot_idx(s, cmp, plan.num_pivots_minus2, pivot_value) == n + 1]
+
+
+def tells_last_piece(plan, cmp, samples):
+    """Whether pieces n and n + 1 map one of these samples to other numbers."""
+    pivot_value = assign_pivot_values(plan.pred_pivot_value, plan.num_pivots_minus2)
+    n = plan.num_pivots_minus2[cmp]
+    return any(map_by_piece(plan, pivot_value, cmp, s, n) != map_by_piece(plan, pivot_value, cmp, s, n + 1)
+               for s in samples)
+
+
+def last_pivot_case(kind, depth, i, generator, version):
+    """Three sections of the sets in turn: where a sample meets piece n + 1, that of version 2 is told from piece n."""
+    sets = last_pivot_sets(depth)
+    d = (denominators(depth)[0], 19, 24, denominators(depth)[-1])[(i + depth // 2) % 4]
+    sections, planes = [], []
+    for cmp in range(3):
+        pivots = sets[(i + 4 * cmp) % len(sets)]
+        pieces = [visible_piece(d, 1 + (piece + i) % 2, generator)
+                  for piece in range(limits.carried(len(pivots) - 2, version))]
+        sections.append(Section(pivots, pieces, vernier(depth, d)))
+        planes.append(fit(last_pivot_samples(pivots, depth), (16, 4, 4)[cmp], lambda: generator.below(1 << depth)))
+    plan = make_plan(depth, d, HDR_DEPTHS[i % 2], 4, 4, sections)
+    for cmp in range(3):
+        met = meets_last_piece(plan, cmp, planes[cmp])
+        assert (met != []) == (sections[cmp].pivots[-1] in limits.samples(depth))
+        assert tells_last_piece(plan, cmp, met) == (version == 2 and met != [])
+    return pinned_picture(kind, plan, planes)._replace(version=version)
+
+
+def last_pivot_cases(generator):
+    """Both versions; of version 2 each picture with an enhancement, and without one or with one that is ignored."""
+    cases = []
+    for depth in DEPTHS:
+        for i in range(len(last_pivot_sets(depth))):
+            first = last_pivot_case("last pivot", depth, i, generator, 1)
+            second = last_pivot_case("last pivot, version 2", depth, i, generator, 2)
+            flagged = changed(second.plan, [(("disable_residual_flag",), 1)])
+            cases += [first, second, second._replace(enhancement=[]) if i % 2 else second._replace(plan=flagged)]
+            if i % 4 == 0:              # version 2 with the last piece twice is what version 1 is
+                cases.append(first._replace(kind="last pivot, pieces alike, version 2", version=2))
     return cases
 
 
@@ -595,7 +708,7 @@ def random_coefficient(d, generator):
     return generator.between(-1 << (d - 1), 1 << d)
 
 
-def random_section(depth, d, generator):
+def random_section(depth, d, generator, version=1):
     n = generator.choice((0, 0, 1, 1, 2, 3, 5, 7, limits.N[-1]))
     largest = generator.choice(((1 << depth) - 1, (1 << depth) // (n + 1), 12))
     pivots = [generator.below(generator.choice((1, 20, 1 << depth)))]
@@ -603,7 +716,7 @@ def random_section(depth, d, generator):
         pivots.append(pivots[-1] + generator.choice((0, 1, 2, 2, 2, 2))
                       * generator.below(largest + 1) // 2)
     pieces = []
-    for _ in range(n + 1):
+    for _ in range(limits.carried(n, version)):
         order = generator.between(1, 2)
         if generator.one_in(3):
             pieces.append([random_coefficient(d, generator) for _ in range(order + 1)])
@@ -642,13 +755,13 @@ def random_enhancement_sample(plan, cmp, v, generator):
     return pinning_enhancement(plan, cmp, v, generator.choice(edges_of_rounding(plan)))
 
 
-def random_plan(shapes, generator):
+def random_plan(shapes, generator, version=1):
     depth = generator.choice(DEPTHS)
     allowed = denominators(depth)
     d = generator.choice((allowed[0], allowed[-1], allowed[-1], generator.among(allowed),
                           generator.among(allowed), 23))
     width, height = generator.choice(shapes)
-    sections = [random_section(depth, d, generator) for _ in range(3)]
+    sections = [random_section(depth, d, generator, version) for _ in range(3)]
     flag = 1 if generator.one_in(8) else 0
     return make_plan(depth, d, generator.choice(HDR_DEPTHS), width, height, sections, flag)
 
@@ -667,8 +780,8 @@ def random_picture(plan, generator):
     return base, enhancement
 
 
-def random_case(generator):
-    plan = random_plan(SHAPES[5:], generator)
+def random_case(generator, version):
+    plan = random_plan(SHAPES[5:], generator, version)
     base, enhancement = random_picture(plan, generator)
     if generator.one_in(12):
         enhancement = []
@@ -676,11 +789,11 @@ def random_case(generator):
     if generator.one_in(5):
         first = generator.below(plan.half_height)
         count = generator.between(1, plan.half_height - first)
-    return Case("random plan", plan, first, count, base, enhancement)
+    return Case("random plan" + ", version 2" * (version == 2), plan, first, count, base, enhancement, version)
 
 
-def random_cases(generator, number):
-    return [random_case(generator) for _ in range(number)]
+def random_cases(generator, number, version=1):
+    return [random_case(generator, version) for _ in range(number)]
 
 
 def all_cases():
@@ -693,4 +806,6 @@ def all_cases():
             + flag_cases(Generator(105))
             + part_cases(Generator(106))
             + refusal_cases(Generator(107))
-            + random_cases(Generator(108), 64))
+            + random_cases(Generator(108), 64)
+            + last_pivot_cases(Generator(110))
+            + random_cases(Generator(111), 16, 2))

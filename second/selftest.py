@@ -29,6 +29,8 @@ import sample_cases
 import words
 import write_cases
 import writer
+import wrong_mappers
+import wrong_readers
 import wrong_writers
 from composer import (Plan, assign_pivot_values, compose_row_pairs, derive_pivot_idx,
                       inverse_quantization, map_sample, reconstruct)
@@ -37,12 +39,14 @@ from composer import (Plan, assign_pivot_values, compose_row_pairs, derive_pivot
 # What several tests look at is made once; no test changes it.
 all_nights = functools.lru_cache(maxsize=None)(night_cases.all_nights)
 plan_groups = functools.lru_cache(maxsize=None)(plan_cases.all_groups)
+block_bases_and_cases = functools.lru_cache(maxsize=None)(block_cases.all_cases)
+all_samples = functools.lru_cache(maxsize=None)(sample_cases.all_cases)
 
 
 @functools.lru_cache(maxsize=None)
 def read_blocks():
     """{block, with the bytes before its header: plan}, of all that block_vectors has read."""
-    bases, cases = block_cases.all_cases()
+    bases, cases = block_bases_and_cases()
     found = {}
     for case in cases:
         data = block_cases.data_of(bases, case)
@@ -60,13 +64,13 @@ def block_of(data):
 
 
 def set_section(plan, cmp, pivots, pieces):
-    """Pivots are running sums; a piece is its list of 2 or 3 numbers."""
+    """Pivots are running sums; a piece is its list of 2 or 3 numbers, and the last of n + 1 pieces stands twice."""
     plan.num_pivots_minus2[cmp] = len(pivots) - 2
     for i, pivot in enumerate(pivots):
         plan.pred_pivot_value[cmp][i] = pivot - (pivots[i - 1] if i else 0)
-    for piece, coef in enumerate(pieces):
+    for piece, coef in enumerate([*pieces, pieces[-1]][:len(pivots)]):
         plan.poly_order_minus1[cmp][piece] = len(coef) - 2
-        plan.fp_poly_coef[cmp][piece][:len(coef)] = coef
+        plan.fp_poly_coef[cmp][piece] = [*coef, 0][:3]
 
 
 def small_plan(depth=10, d=15, pivots=(0, 1023), pieces=((0, 1 << 15),)):
@@ -116,9 +120,41 @@ def test_piece_choice():
     equal = dict(pivots=(100, 100, 200), pieces=[(1 << 14, 0), (0, 0)])
     assert mapped(50, **equal) == 32768
     assert mapped(100, **equal) == 0
-    # Clause 5.4.2.2 itself gives n + 1 at and above the last pivot.
+    # Clause 5.4.2.2 gives n + 1 at and above the last pivot.
     assert derive_pivot_idx(200, 0, [0], [[100, 200]]) == 1
     assert derive_pivot_idx(199, 0, [0], [[100, 200]]) == 0
+
+
+def test_last_piece():
+    """Version 2 by hand, at d = 15: v of (0, one) is 64 s, of (one / 2, 0) 32,768, of (0, 0, one) s x s / 16."""
+    one = 1 << 15
+    half = (one // 2, 0)
+    above = dict(pivots=(100, 200), pieces=[(0, one), half])
+    assert [mapped(s, **above) for s in (50, 199, 200, 201, 1023)] == [6400, 12736, 32768, 32768, 32768]
+    # As version 1 has it piece 0 stands twice: E11 at the last pivot and above it.
+    assert [mapped(s, pivots=(100, 200)) for s in (199, 200, 201, 1023)] == [12736, 12800, 12800, 12800]
+    # Piece n + 1 is taken at the clamped sample, 200: 2 x 64 x 200, and 200 x 200 / 16.
+    steep = dict(pivots=(100, 200), pieces=[(0, one), (0, 2 * one)])
+    assert [mapped(s, **steep) for s in (199, 200, 900)] == [12736, 25600, 25600]
+    assert mapped(900, pivots=(100, 200), pieces=[(0, one), (0, 0, one)]) == 2500
+    # Equal last pivots: the piece between them, (one / 4, 0), is met by no sample.
+    equal = dict(pivots=(0, 100, 100), pieces=[(0, one), (one // 4, 0), half])
+    assert [mapped(s, **equal) for s in (50, 99, 100, 101)] == [3200, 6336, 32768, 32768]
+    equal = dict(pivots=(0, 60, 100, 100, 100), pieces=[(0, one), (0, 0), (one // 4, 0), (one, 0), half])
+    assert [mapped(s, **equal) for s in (59, 60, 99, 100)] == [3776, 0, 0, 32768]
+    # The only two are equal: below them piece 0, at them piece 1.
+    equal = dict(pivots=(100, 100), pieces=[(one // 4, 0), half])
+    assert [mapped(s, **equal) for s in (0, 99, 100, 1023)] == [16384, 16384, 32768, 32768]
+    # A last pivot of 0 leaves nothing to piece 0; one above the largest sample leaves nothing to piece 1.
+    assert mapped(0, pivots=(0, 0), pieces=[(0, one), half]) == 32768
+    assert mapped(1023, pivots=(1, 1024), pieces=[(0, one), half]) == 65472
+    assert mapped(1023, pivots=(0, 1023), pieces=[(0, one), half]) == 32768
+    # Depth 8, d = 13: v of (0, one) is 256 s.
+    low = dict(depth=8, d=13, pivots=(0, 128), pieces=[(0, 1 << 13), (1 << 11, 0)])
+    assert [mapped(s, **low) for s in (127, 128, 255)] == [32512, 16384, 16384]
+    # n = 15: 17 pieces, the last for 960 and above.
+    many = dict(pivots=[60 * i for i in range(17)], pieces=[(0, one)] * 16 + [half])
+    assert [mapped(s, **many) for s in (959, 960, 1023)] == [61376, 32768, 32768]
 
 
 def residual(e, offset, R, S, T, EL_bit_depth, d):
@@ -193,29 +229,60 @@ def test_reconstruction():
     assert reconstruct(100, -13, 0, 12) == 5       # 95 >> 4
 
 
-def largest_plan():
+def largest_plan(last=(1, 2, 3)):
     plan = small_plan()
     for cmp in range(3):
         set_section(plan, cmp, [60 * i for i in range(limits.PIVOT_PLACES)],
-                    [[1, 2, 3]] * limits.pieces(limits.N[-1]))
+                    [[1, 2, 3]] * limits.carried(limits.N[-1], 1) + [last])
     return plan
 
 
 def test_block_sizes():
-    """The house rules' lengths, against those that the limits come to."""
-    shortest = small_plan()
-    assert len(block.section_bytes(shortest, 0)) == limits.SHORTEST_SECTION == 34
-    data = block.write(shortest)
-    assert len(data) == limits.SHORTEST_BLOCK == 138
-    assert struct.unpack(">6H", data[-12:]) == (126, 102, 68, 34, 1, 0)
-    assert block.read(data) == (0, shortest)
-    longest = largest_plan()
-    assert len(block.section_bytes(longest, 2)) == limits.LONGEST_SECTION == 324
-    data = block.write(longest)
-    assert len(data) == limits.LONGEST_BLOCK == 1008
-    assert block.read(data) == (0, longest)
-    assert block.read(b"\xff" * 70000 + data) == (0, longest)
+    """The house rules' lengths, against those that the limits come to; a plan reads back from both versions."""
+    shortest, longest = small_plan(), largest_plan()
+    for version, section, size, trailer in ((1, 34, 138, (126, 102, 68, 34, 1, 0)),
+                                            (2, 46, 174, (162, 138, 92, 46, 2, 0))):
+        assert len(block.section_bytes(shortest, 0, version)) == limits.SHORTEST_SECTION[version] == section
+        data = block.write(shortest, version)
+        assert len(data) == limits.SHORTEST_BLOCK[version] == size
+        assert struct.unpack(">6H", data[-12:]) == trailer
+        assert block.read(data) == (0, shortest)
+    for version, section, size in ((1, 324, 1008), (2, 341, 1059)):
+        assert len(block.section_bytes(longest, 2, version)) == limits.LONGEST_SECTION[version] == section
+        data = block.write(longest, version)
+        assert len(data) == limits.LONGEST_BLOCK[version] == size
+        assert block.read(data) == (0, longest)
+        assert block.read(b"\xff" * 70000 + data) == (0, longest)
     assert len(places.PLACES) == 11 + 3 * 107
+    unlike = largest_plan([4, -5])
+    assert block.read(block.write(unlike, 2)) == (0, unlike)
+
+
+def test_versions_by_hand():
+    """The shortest block's section in both versions, read to places: 29 is piece 0, 34 piece 1 of component 0."""
+    y = bytes.fromhex("00" "000003ff" "0000" "0000000005" "0100000000")
+    nlq = bytes.fromhex("0200" "0000000000" "0000000000" "0000000000")
+    header = block.write(small_plan())[:24]
+    number, plan = block.read(block.assemble(header, [y + nlq] * 3, 1))
+    assert number == 0 and places.values(plan)[29:41] == [0, 0, 5, 32768, 0, 0, 0, 5, 32768, 0, 0, 0]
+    last = bytes.fromhex("0001" "ff00007fff" "0000000006" "0000000007")
+    number, plan = block.read(block.assemble(header, [y + last + nlq] * 3, 2))
+    assert number == 0 and places.values(plan)[29:41] == [0, 0, 5, 32768, 0, 0, 1, -1, 6, 7, 0, 0]
+    # The other version, one piece too many: nlq_offset's 2 is no mapping_idc, and no integer part is 255.
+    for version, section in ((2, y + nlq), (1, y + last + nlq), (2, y + last + last + nlq)):
+        assert number_of(block.assemble(header, [section] * 3, version)) == 5
+    for version in (0, 3, 257, 258, 513, 65535):
+        assert number_of(block.assemble(header, [y + last + nlq] * 3, version)) == 2
+    # Sections of zeros: 34 bytes are one of version 1, 46 of version 2; else piece 1 runs past, or 12 bytes are left.
+    for version, sizes, number in (
+            (1, (34, 34, 34), 0), (2, (46, 46, 46), 0), (2, (34, 34, 34), 3), (1, (46, 46, 46), 3),
+            (2, (46, 46, 34), 3), (1, (34, 46, 34), 3), (2, (58, 46, 46), 3), (2, (46, 45, 46), 3)):
+        assert number_of(block.assemble(header, [bytes(size) for size in sizes], version)) == number
+    # mapping_idc of piece 1 is at 17 of a section
+    for cmp, number in ((0, 5), (1, 6), (2, 6)):
+        sections = [bytes(46)] * 3
+        sections[cmp] = edited(bytes(46), 17, 1)
+        assert number_of(block.assemble(header, sections, 2)) == number
 
 
 def test_largest_size():
@@ -246,7 +313,8 @@ def test_block_refusals():
     assert number_of(bytes(11)) == 1
     assert number_of(edited(data, 126, 0, 10, 0xff, 0xf2)) == 2   # A 10, D0 65,522
     assert number_of(data[1:]) == 1
-    assert number_of(edited(data, 135, 2)[1:]) == 2            # 2 before the rest of 1
+    assert number_of(edited(data, 135, 3)[1:]) == 2            # 2 before the rest of 1
+    assert number_of(edited(data, 135, 2)[1:]) == 1            # version 2 is one
     assert number_of(edited(data, 24, n)) == 5
     assert number_of(edited(data, 24, 1)) == 3                 # n = 1: section too short
     assert number_of(edited(data, 29, 1)) == 5                 # mapping_idc, section 0
@@ -272,17 +340,27 @@ def test_left_over_before_next_section():
 
 def split(data):
     """Header and sections of a shortest block."""
-    y, size = limits.HEADER_BYTES, limits.SHORTEST_SECTION
+    y, size = limits.HEADER_BYTES, limits.SHORTEST_SECTION[1]
     return [data[:y]] + [data[y + cmp * size:y + (cmp + 1) * size] for cmp in range(3)]
 
 
 def test_round_trip():
-    """Writing the plan of an accepted slice gives its last A + 12 bytes again."""
+    """Writing the plan of an accepted slice, as the version that it was, gives its last A + 12 bytes again.
+
+    What was read of version 1 can be written as version 2, which is longer, and reads back to the same plan.
+    """
+    both = alike = 0
     for data, plan in read_blocks().items():
-        whole = block_of(data)
-        assert writer.write_into(plan, 1, bytes(len(whole))) == (0, len(whole), whole)
+        whole, version = block_of(data), block.version_of(data)
+        assert writer.write_into(plan, version, bytes(len(whole))) == (0, len(whole), whole)
         assert not jobs.breaks_rule_7(plan)
-    assert len(read_blocks()) > 500
+        other = writer.length(plan, 3 - version)
+        assert version == 2 or other >= len(whole) + 36
+        if other > 0:
+            number, length, after = writer.write_into(plan, 3 - version, bytes(other))
+            assert (number, length) == (0, other) and block.read(after) == (0, plan)
+            both, alike = both + 1, alike + (version == 2)
+    assert len(read_blocks()) > 600 and 500 < both < len(read_blocks()) and alike > 1
 
 
 def test_rule_7():
@@ -298,7 +376,14 @@ def test_rule_7():
     assert not broken(lambda plan: None)
     assert broken(lambda plan: plan.pred_pivot_value[1].__setitem__(2, 1))
     assert broken(lambda plan: plan.fp_poly_coef[2][0].__setitem__(2, 1))
-    assert broken(lambda plan: plan.poly_order_minus1[0].__setitem__(1, 1))
+    assert broken(lambda plan: plan.poly_order_minus1[0].__setitem__(2, 1))
+    assert not broken(lambda plan: plan.poly_order_minus1[0].__setitem__(1, 1))        # piece n + 1, its third is 0
+    assert not broken(lambda plan: plan.fp_poly_coef[0][1].__setitem__(0, 9))
+    assert broken(lambda plan: plan.fp_poly_coef[0][1].__setitem__(2, 1))
+    assert broken(lambda plan: plan.fp_poly_coef[0][2].__setitem__(0, 1))
+    assert broken(lambda plan: plan.mapping_idc[0].__setitem__(1, limits.MMR))
+    assert jobs.breaks_rule_7(places.changed(good, [(("poly_order_minus1", 2, 16), 0)]))      # n = 15: place 16 is used
+    assert not jobs.breaks_rule_7(places.changed(good, [(("fp_poly_coef", 2, 16, 2), 0)]))
     coefficients, numbers = limits.coefficients(15), limits.nlq_numbers(15)
     assert broken(lambda plan: plan.fp_poly_coef[0][0].__setitem__(0, coefficients[-1] + 1))
     assert not broken(lambda plan: plan.fp_poly_coef[0][0].__setitem__(0, coefficients[0]))
@@ -311,7 +396,7 @@ def test_plan_cases():
     """Each place was tried where it is used and where it is not, at its ends and beyond."""
     shown = set()
     for group in plan_groups():
-        assert block.read(block.write(group.plan)) == (0, group.plan)
+        assert block.read(block.write(group.plan, group.version)) == (0, group.plan)
         for case in group.cases:
             plan = places.changed(group.plan, case.edits)
             broken = jobs.breaks_rule_7(plan)
@@ -339,12 +424,83 @@ def test_writer():
     assert writer.write_into(plan, 1, b"\xaa" * 138) == (0, 138, after[:138])
     for size in (0, 12, 137):
         assert writer.write_into(plan, 1, b"\xaa" * size) == (12, 0, b"\xaa" * size)
-    for version in (0, 2, 257, 65535):
+    for version in (0, 3, 257, 258, 65535):
         assert writer.length(plan, version) == 0
         for size in (0, 137, 138, 200):
             assert writer.write_into(plan, version, b"\xaa" * size) == (7, 0, b"\xaa" * size)
-    assert writer.write_into(Plan(), 1, b"\xaa") == (7, 0, b"\xaa")
+    assert writer.write_into(Plan(), 1, b"\xaa") == writer.write_into(Plan(), 2, b"\xaa") == (7, 0, b"\xaa")
     assert [writer.length(plan, 1) for plan in (Plan(), plan, largest_plan())] == [0, 138, 1008]
+    assert [writer.length(plan, 2) for plan in (Plan(), plan, largest_plan())] == [0, 174, 1059]
+
+
+def test_writer_of_version_2():
+    """By hand: piece 1 is 12 bytes after piece 0, or 17; as version 1 it is written where it is piece 0 again."""
+    plan = small_plan()
+    number, length, after = writer.write_into(plan, 2, b"\xaa" * 175)
+    piece, nlq = bytes.fromhex("0000" "0000000000" "0100000000"), bytes(17)
+    assert (number, length, after[174:]) == (0, 174, b"\xaa")
+    assert after[24:162] == 3 * (bytes.fromhex("00" "000003ff") + 2 * piece + nlq)
+    assert after[162:174] == bytes.fromhex("00a2008a005c002e0002" "0000")
+    assert writer.write_into(plan, 2, b"\xaa" * 173) == (12, 0, b"\xaa" * 173)
+    for cmp in range(3):
+        for edits, size in (([(("fp_poly_coef", cmp, 1, 0), 1)], 174), ([(("fp_poly_coef", cmp, 0, 1), -1)], 174),
+                            ([(("poly_order_minus1", cmp, 1), 1)], 179),
+                            ([(("poly_order_minus1", cmp, 0), 1), (("fp_poly_coef", cmp, 0, 2), 8)], 179)):
+            other = places.changed(plan, edits)
+            assert (writer.length(other, 1), writer.length(other, 2)) == (0, size)
+            for room in (0, 137, 138, 200):                     # 7 before 12
+                assert writer.write_into(other, 1, b"\xaa" * room) == (7, 0, b"\xaa" * room)
+            number, length, after = writer.write_into(other, 2, bytes(size))
+            assert (number, length) == (0, size) and block.read(after) == (0, other)
+    # MMR in both pieces makes them no less a fault
+    both = places.changed(plan, [(("mapping_idc", 1, piece), limits.MMR) for piece in (0, 1)])
+    assert writer.length(both, 1) == writer.length(both, 2) == 0
+
+
+def test_read_cases():
+    """Each kind of case tells the wrong readers that it is said to show, and each wrong reader is shown."""
+    bases, cases = block_bases_and_cases()
+
+    def tells(case, read):
+        data = block_cases.data_of(bases, case)
+        return answers.block_line(data) != answers.block_line(data, read)
+    assert_shown(block_cases.SHOWS, by_kind(cases), wrong_readers.WRONG, tells)
+    assert shown_names(block_cases.SHOWS) == set(wrong_readers.WRONG)
+
+
+def test_sample_cases():
+    """The same by what is composed: for some of the wrong readers, and for every wrong mapping."""
+    readers = {name: {"read": read} for name, read in wrong_readers.WRONG.items()}
+    mappers = {name: {"mapping": mapping} for name, mapping in wrong_mappers.WRONG.items()}
+    assert_shown(sample_cases.SHOWS, by_kind(all_samples()), {**readers, **mappers},
+                 lambda case, wrong: composed_line(case) != composed_line(case, **wrong))
+    assert shown_names(sample_cases.SHOWS) - set(readers) == set(mappers)
+
+
+def composed_line(case, read=block.read, mapping=map_sample):
+    """What is said of a case of sample_vectors by this reader and by this mapping."""
+    number, plan = read(block.write(case.plan, case.version))
+    if number != 0:
+        return "block refused %d" % number
+    return answers.sample_line(plan, case.first, case.count, case.base, case.enhancement, mapping)
+
+
+def by_kind(cases):
+    kinds = {}
+    for case in cases:
+        kinds.setdefault(case.kind, []).append(case)
+    return kinds
+
+
+def shown_names(shows):
+    return {name for names in shows.values() for name in names}
+
+
+def assert_shown(shows, kinds, wrong, tells):
+    """Each kind has a case that tells each wrong program that it is said to show."""
+    for kind, names in shows.items():
+        for name in names:
+            assert any(tells(case, wrong[name]) for case in kinds[kind]), (kind, name)
 
 
 def test_check_sum():
@@ -362,10 +518,8 @@ def test_write_cases():
             assert case.size <= write_cases.LARGEST_SLICE
             kinds.setdefault(case.kind, []).append(Written(plan, case))
     assert set(kinds) == set(write_cases.SHOWS)
-    assert {name for names in write_cases.SHOWS.values() for name in names} == set(wrong_writers.WRONG)
-    for kind, names in write_cases.SHOWS.items():
-        for name in names:
-            assert any(case.tells(wrong_writers.WRONG[name]) for case in kinds[kind]), (kind, name)
+    assert_shown(write_cases.SHOWS, kinds, wrong_writers.WRONG, Written.tells)
+    assert shown_names(write_cases.SHOWS) == set(wrong_writers.WRONG)
 
 
 class Written:
@@ -391,6 +545,11 @@ def test_write_line():
     assert line[:3] == ["written", "138", "138"] and line[4] == "0" and line[5:9] == line[:4]
     assert line[9:] == [str(len(text)), str(answers.fnv_1a(text)), "same", "same"]
     assert answers.write_line(plan, 1, 137, 0).split()[:3] == ["refused", "12", "138"]
+    # as version 2 it has piece 0's five lines once more in each component
+    line = answers.write_line(plan, 2, 174, 0).split()
+    assert line[:3] == ["written", "174", "174"] and line[4] == "0" and line[5:9] == line[:4]
+    assert line[9] == str(len(text) + 3 * len(author_cases.joined(author_cases.LINES[15:20])))
+    assert line[11:] == ["same", "same"]
 
 
 def test_jobs():
@@ -581,7 +740,7 @@ def lent_runs(night, job):
 
 def test_demand_3():
     """Demand 3's sentence over the random nights; marks play no part in it."""
-    chosen = [night for night in all_nights() if night.kind == "random"]
+    chosen = [night for night in all_nights() if night.kind in ("random", "random, version 2")]
     accepted = refused = complete = 0
     for night in chosen:
         opening, jobs_done, output, _ = played(night)
@@ -720,7 +879,7 @@ def test_what_is_said():
         ((122, 1), "5 at byte 122", "linear_deadzone_threshold[2] is 16777216, allowed less than 32768"),
         ((0, 2), "4 at byte 0", "ccm_profile is 2, allowed 1, 3 or 4"),
         ((137, 1), "2 at byte 126", "A is 126, D0 is 102, D1 is 68, D2 is 34, version is 1, zero is 1, "
-                                    "allowed A = D0 + 24, D0 > D1 > D2 > 0, version 1, zero 0"),
+                                    "allowed A = D0 + 24, D0 > D1 > D2 > 0, version 1 or 2, zero 0"),
     ]
     for edit, refusal, found in expected:
         number, place = refusal.split(" ", 1)
@@ -762,6 +921,12 @@ def test_what_is_shown():
         "  linear_deadzone_threshold_int 0 + linear_deadzone_threshold 0/2^15, about 0.000000",
         "section 1, Cb, at byte 77"]
     assert lines[-7:] == ["trailer at byte 145", "  A 140", "  D0 116", "  D1 68", "  D2 34", "  version 1", "shown"]
+    # As version 2: 12 bytes more in each section, and piece 2 is piece 1 again; of chroma piece 1 is piece 0.
+    second = inspect_block.inspect("x", bytes(5) + block.write(plan, 2))
+    assert second[0] == "x, 193 bytes" and second[13:27] == lines[13:27]
+    assert second[27:33] == ["  piece 2"] + lines[23:27] + ["  nlq_offset 512"]
+    assert second[36] == "section 1, Cb, at byte 89" and second[45] == "  piece 1"
+    assert second[-7:] == ["trailer at byte 181", "  A 176", "  D0 152", "  D1 92", "  D2 46", "  version 2", "shown"]
 
 
 def test_what_is_drawn():
@@ -772,12 +937,26 @@ def test_what_is_drawn():
     set_section(plan, 1, (0, 1023), [(63 << 15, 0)])
     lines = inspect_block.inspect("x", block.write(plan), plotted=True)
     assert len(lines) == 9 and lines[0].startswith("<svg ") and lines[-2].endswith("</svg>") and lines[-1] == "shown"
-    assert lines[1].endswith(">Y: pieces 1, codes 0 to 1023, mapped samples 6400 to 12800</text><text y=\"-9\">pivots 100 200")
+    assert lines[1].endswith('>Y: pieces 1, codes 0 to 1023, mapped samples 6400 to 12800</text>'
+                             '<text y="-9">pivots 100 200')
     assert ('<path class="a" d="M25600 0h25600v65536h-25600"/><path class="p" d="M25600 0v65536"/>'
             '<path class="p" d="M51200 0v65536"/>') in lines[2]
     assert 'd="M 0 59135 256 59135 ' in lines[2] and " 51200 52735 " in lines[2] and '261888 52735"/>' in lines[2]
     assert '<path class="x" d=""/>' in lines[2]
     assert '<path class="x" d="M0 0h256M256 0h256M512 0h256' in lines[4] and lines[4].count("h256M") == 1023
+    # Version 2: piece 1 goes on from 51,200 by 210,944 to the panel's end, 262,144, and its line stands twice. In
+    # section 1 the last pivot is 1,023, of which 256 units are left; 1,024 in section 2 leaves none.
+    set_section(plan, 0, (100, 200), [(0, 1 << 15), (1 << 14, 0)])
+    set_section(plan, 2, (1, 1024), [(0, 1 << 15), (1 << 14, 0)])
+    lines = inspect_block.inspect("x", block.write(plan, 2), plotted=True)
+    assert lines[1].endswith('>Y: pieces 2, codes 0 to 1023, mapped samples 6400 to 32768</text>'
+                             '<text y="-9">pivots 100 200')
+    assert ('<path class="a" d="M25600 0h25600v65536h-25600"/><path class="p" d="M25600 0v65536"/>'
+            '<path class="b" d="M51200 0h210944v65536h-210944"/><path class="p" d="M51200 0v65536"/>'
+            '<path class="p" d="M51200 0v65536"/><path class="g"') in lines[2]
+    assert " 50944 52799 51200 32767 " in lines[2] and '261888 32767"/>' in lines[2]
+    assert '<path class="b" d="M261888 0h256v65536h-256"/><path class="p" d="M261888 0v65536"/>' in lines[4]
+    assert '<path class="b" d="M262144 0h0v65536h-0"/><path class="p" d="M262144 0v65536"/>' in lines[6]
 
 
 def test_what_inspect_answers():
@@ -819,12 +998,20 @@ def test_text_by_hand():
     # the first section: n at 24, pivots from 25, the piece's own bytes at 31 and 32, its coefficients from 33
     assert [made.lines[place] for place in (24, 25, 29, 31, 32, 33, 34, 38, 43, 72)] == [
         14, 15, 15, 17, 18, 19, 19, 20, 22, 31]
+    # As version 2 it has the last piece of each component again, five lines and 12 bytes.
+    second = plan_text.text_of(plan, 2).decode().split("\n")
+    assert second[0] == "version 2" and second[1:25] == lines[1:25] and len(second) == len(lines) + 15
+    assert second[25:31] == ["piece 2"] + lines[21:25] + ["nlq_offset 512"]
+    made = plan_text.read_text("\n".join(second).encode())
+    assert len(made.data) == 138 + 14 + 36 and made.data == block.write(plan, 2)
+    # its own bytes from 55 on: mapping_idc, order, coefficients; then nlq_offset
+    assert [made.lines[place] for place in (55, 56, 57, 58, 62, 67)] == [27, 28, 29, 29, 30, 31]
 
 
 def test_text_page():
     """The example of docs/TEXT.md is the shortest block: numbers of it by hand."""
     data = plan_text.read_text(author_cases.joined(author_cases.LINES)).data
-    assert len(data) == 138 == limits.SHORTEST_BLOCK and block.read(data)[0] == 0
+    assert len(data) == 138 == limits.SHORTEST_BLOCK[1] and block.read(data)[0] == 0
     assert data[:24] == bytes([1, 0, 23, 2, 2, 4, 0, 0, 3, 192, 2, 28, 3, 232, 0, 0, 0, 0, 0, 50, 0, 0, 0, 0])
     section = bytes([0, 0, 0, 3, 255, 0, 0] + [0] * 5 + [1, 0, 0, 0, 0] + [2, 0] + [0, 0, 64, 0, 0]
                     + [0, 0, 32, 0, 0] + [0] * 5)
@@ -842,7 +1029,8 @@ def test_text_identities():
     """Over every block of the vectors that is read, and every plan of them that passes rule 7."""
     blocks = {block_of(data) for data in read_blocks()}
     plans = [places.changed(group.plan, case.edits) for group in plan_groups() for case in group.cases]
-    written = {block.write(plan) for plan in plans if not jobs.breaks_rule_7(plan)}
+    written = {block.write(plan, write_cases.least_version(plan)) for plan in plans if not jobs.breaks_rule_7(plan)}
+    assert {block.version_of(data) for data in written} == {1, 2}
     assert len(blocks) > 500 and len(written) > 500
     for data in blocks | written:
         assert is_whole_circle(data), data
@@ -850,17 +1038,18 @@ def test_text_identities():
 
 def test_texts_near_by():
     """Every text that one byte changed, put in or left out makes of a good one: an accepted one is its block's text."""
-    good = author_cases.joined(author_cases.LINES)
-    texts = {good[:at] + byte + good[at + gone:] for at in range(len(good) + 1) for gone in (0, 1)
+    first, second = author_cases.joined(author_cases.LINES), author_cases.joined(author_cases.SECOND_LINES)
+    texts = {good[:at] + byte + good[at + gone:] for good, step in ((first, 1), (second, 5))
+             for at in range(0, len(good) + 1, step) for gone in (0, 1)
              for byte in (b"", b"0", b"7", b"-", b" ", b"\n")}
     refused = accepted = 0
-    for text in texts - {good}:
+    for text in texts - {first, second}:
         try:
             data = author.made_of("x", text)
         except picture.NotWritten:
             refused += 1
             continue
-        assert plan_text.text_of(block.read(data)[1]) == text, text
+        assert plan_text.text_of_block(data) == text, text
         accepted += 1
     assert accepted > 100 and refused > 5000
 
@@ -886,11 +1075,18 @@ def test_what_author_answers():
                                                 "allowed 0 to 1"),
         ((6, "EL_bit_depth_minus8 0"), "line 6: refused 4 (header): EL_bit_depth_minus8 is 0, "
                                        "allowed 2, as BL_bit_depth_minus8 is"),
-        ((1, "version 2"), "line 1: refused 2 (trailer): A is 126, D0 is 102, D1 is 68, D2 is 34, version is 2, "
-                           "zero is 0, allowed A = D0 + 24, D0 > D1 > D2 > 0, version 1, zero 0"),
+        ((1, "version 3"), "line 1: refused 2 (trailer): A is 27, D0 is 3, D1 is 2, D2 is 1, version is 3, "
+                           "zero is 0, allowed A = D0 + 24, D0 > D1 > D2 > 0, version 1 or 2, zero 0"),
+        ((1, "version 2"), "line 21: piece is expected"),
+        ((1, "version 65536"), "line 1: 65536 does not fit version, which holds 0 to 65535"),
     ]
     for edit, found in expected:
         assert said(edit) == "x: " + found, said(edit)
+    # a version that there is none of: nothing after it is read, and the block is 24 bytes, three of one, the trailer
+    for text in (b"version 3", b"version 3\n", b"version 3x", b"version 3\nccm_profile 900\n"):
+        made = plan_text.read_text(text)
+        assert len(made.data) == 39 and made.data[27:] == bytes([0, 27, 0, 3, 0, 2, 0, 1, 0, 3, 0, 0])
+        assert author.refusal("x", made).startswith("x: line 1: refused 2 (trailer): A is 27, ")
     # the last section ends at its n, one byte long, and the trailer is right
     made = plan_text.read_text(author_cases.changed(lines[:38], (38, "num_pivots_minus2 99")))
     assert made.data[92:] == bytes([99]) + bytes([0, 93, 0, 69, 0, 35, 0, 1, 0, 1, 0, 0])
@@ -982,6 +1178,20 @@ def test_compose_file():
         assert folder.left() == ["base", "block", "large", "out", "out.part"]
 
 
+def test_compose_version_2():
+    """By hand: pivots 0 and 110, so that code s below 110 comes to 4s, and 110 and more to 2,048, which is 1/2."""
+    plan = tall_plan(5)
+    for cmp in range(3):
+        set_section(plan, cmp, (0, 110), [(0, 1 << 15), (1 << 14, 0)])
+    composed = raw(*(4 * s if s < 110 else 2048 for s in range(100, 130)))
+    with Folder() as folder:
+        folder.put("block", block.write(plan, 2))
+        folder.put("base", raw(*range(100, 130)))
+        assert folder.said("block", "base", "none", "out")[-1] == "written"
+        assert picture.contents(folder.path("out")) == composed
+        assert large.compose_file(folder.path("block"), folder.path("base"), "none") == composed
+
+
 def test_bands():
     """98,304 samples: 8 row pairs of 4096, and 16,384 row pairs of 2, of which no picture has so many."""
     plan = tall_plan(1152)
@@ -1002,9 +1212,9 @@ def composes_whole(case):
 
 def test_large():
     """large.py composes what picture.py composes: several pictures, both depths, with and without an enhancement."""
-    chosen = [case for case in sample_cases.all_cases()[::20] if composes_whole(case)]
+    chosen = [case for case in all_samples()[::20] if composes_whole(case)]
     assert len(chosen) >= 20
-    assert {case.plan.BL_bit_depth for case in chosen} == {8, 10}
+    assert {(case.plan.BL_bit_depth, case.version) for case in chosen} == {(8, 1), (8, 2), (10, 1), (10, 2)}
     for case in chosen:
         enhancement = case.enhancement if case.plan.disable_residual_flag == 0 else []
         _, composed = jobs.job(case.plan, case.first, case.count, case.base, case.enhancement, list(case.base))

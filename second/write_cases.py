@@ -16,7 +16,7 @@ from composer import Plan
 from generator import Generator
 from jobs import breaks_rule_7
 from limits import LONGEST_BLOCK, N, SHORTEST_BLOCK, VERSIONS, denominators
-from places import changed
+from places import PIECE, changed
 from plan_cases import base_plan, header_cases, place_cases, random_cases
 from sample_cases import random_plan
 
@@ -24,8 +24,8 @@ Group = namedtuple("Group", "data cases")       # data: a block, from which the 
 Case = namedtuple("Case", "kind edits version size first")      # of the slice: its length, what it begins with
 
 LARGEST_BLOCK = 4096        # of those that are read, with the bytes before their header
-LARGEST_SLICE = LONGEST_BLOCK + 240
-ALL_VERSIONS = (0, 1, 2, 3, 255, 256, 257, 513, 32769, 65535)
+LARGEST_SLICE = 1248
+NO_VERSIONS = (0, 3, 255, 256, 257, 258, 513, 32769, 65535)
 
 SHOWS = {
     "slice": (
@@ -36,7 +36,25 @@ SHOWS = {
         "distances of one byte", "version 0 written", "the longest block's length"),
     "version": (
         "every version taken", "a version by its low byte", "12 before 7", "12 for 7", "7 after the slice was cleared",
-        "a length though the version is refused"),
+        "a length though the version is refused", "every version taken for 2", "version 3 taken for 2",
+        "version 2 refused", "version 1 in every trailer", "version 1's sections in version 2"),
+    "other version": (
+        "version 2 refused", "version 1 in every trailer", "version 1's sections in version 2",
+        "version 1 of pieces that differ", "only luma's pieces compared", "only Cb's pieces compared",
+        "Cr's pieces not compared", "every version taken"),
+    "last pieces differ": (
+        "version 1 of pieces that differ", "only luma's pieces compared", "only Cb's pieces compared",
+        "Cr's pieces not compared", "only the orders compared", "only the first coefficients compared",
+        "the orders not compared", "the third coefficients not compared", "12 before the pieces are compared",
+        "piece n twice in version 2", "7 after the slice was cleared", "12 for 7", "a length though the pieces differ"),
+    "slice, version 2": (
+        "exact fit refused", "12 after a part was written", "lengths by their low bytes", "the slice's length answered",
+        "one byte after the block overwritten", "the last byte left", "distances of one byte",
+        "the longest block's length", "version 2 refused", "version 1's sections in version 2",
+        "piece n twice in version 2"),
+    "shape, version 2": (
+        "the last piece lost", "three coefficients always", "distances of one byte", "piece n twice in version 2",
+        "version 1's sections in version 2"),
     "good place": (
         "little endian", "slope and threshold swapped", "hdr_in_max and slope swapped", "Cb and Cr swapped",
         "pivots in place of their differences", "no profile", "no d", "no bl", "no el", "no hdr", "no flag",
@@ -79,11 +97,17 @@ class Groups:
         assert found == number, "%s: %d in place of %d for %s" % (kind, found, number, edits)
         self.all[-1].cases.append(case)
 
-    def add_fitting(self, kind, edits, spare):
+    def add_fitting(self, kind, edits, spare, version=None):
         """A plan that can be written: slices of its block's length and so many bytes to spare, or too few."""
-        size = writer.length(changed(self.plan, edits), VERSIONS[0])
+        plan = changed(self.plan, edits)
+        version = version or least_version(plan)
         for more in spare:
-            self.add(kind, 0 if more >= 0 else 12, edits, VERSIONS[0], size + more)
+            self.add(kind, 0 if more >= 0 else 12, edits, version, writer.length(plan, version) + more)
+
+
+def least_version(plan):
+    """Of those that a plan in range can be written as."""
+    return next(version for version in VERSIONS if block.has_place_for(version, plan))
 
 
 def plan_of(data):
@@ -93,49 +117,99 @@ def plan_of(data):
 
 def slice_cases(groups, generator):
     """Every length up to the shortest block's, and those about the longest one's and its low byte."""
+    shortest, longest = SHORTEST_BLOCK[1], LONGEST_BLOCK[1]
     groups.begin(block.write(small_plan(10, denominators(10)[0])))
-    for size in (*range(SHORTEST_BLOCK + 3), SHORTEST_BLOCK + 256, LONGEST_BLOCK, LARGEST_SLICE):
-        groups.add("slice", 0 if size >= SHORTEST_BLOCK else 12, [], VERSIONS[0], size)
-    low = LONGEST_BLOCK % 256
+    for size in (*range(shortest + 3), shortest + 256, longest, LARGEST_SLICE):
+        groups.add("slice", 0 if size >= shortest else 12, [], 1, size)
     for depth, d in ((10, denominators(10)[-1]), (8, denominators(8)[0])):
         groups.begin(block.write(longest_plan(depth, d, generator)))
-        for size in (0, 1, 12, 24, 36, SHORTEST_BLOCK, low - 1, low, low + 1, 512 + low, LONGEST_BLOCK - 12,
-                     LONGEST_BLOCK - 1, LONGEST_BLOCK, LONGEST_BLOCK + 1, 1024, LARGEST_SLICE):
-            groups.add("slice", 0 if size >= LONGEST_BLOCK else 12, [], VERSIONS[0], size)
+        for size in long_slices(1):
+            groups.add("slice", 0 if size >= longest else 12, [], 1, size)
+
+
+def long_slices(version):
+    """Lengths about the longest block's and its low byte."""
+    longest = LONGEST_BLOCK[version]
+    low = longest % 256
+    return (0, 1, 12, 24, 36, SHORTEST_BLOCK[version], low - 1, low, low + 1, 512 + low, longest - 12, longest - 1,
+            longest, longest + 1, longest + 16, LARGEST_SLICE)
+
+
+def second_slice_cases(groups, generator):
+    """The same for version 2: of the shortest block lengths about both versions'."""
+    shortest, longest = SHORTEST_BLOCK[2], LONGEST_BLOCK[2]
+    groups.begin(block.write(small_plan(8, denominators(8)[-1], version=2), 2))
+    for size in (0, 11, SHORTEST_BLOCK[1] - 1, SHORTEST_BLOCK[1], *range(shortest - 13, shortest + 3), shortest + 256,
+                 longest, LARGEST_SLICE):
+        groups.add("slice, version 2", 0 if size >= shortest else 12, [], 2, size)
+    groups.begin(block.write(longest_plan(10, 27, generator, 2), 2))
+    for size in (*long_slices(2), LONGEST_BLOCK[1], LONGEST_BLOCK[1] - 1):
+        groups.add("slice, version 2", 0 if size >= longest else 12, [], 2, size)
 
 
 def version_cases(groups, generator):
-    """A version that is none is refused 7, also where the slice is too short."""
+    """A version that is none is refused 7, also where the slice is too short; both others are written."""
     for plan in (small_plan(8, denominators(8)[0]), longest_plan(10, 23, generator)):
         data = block.write(plan)
         groups.begin(data)
-        for version in ALL_VERSIONS:
+        for version in NO_VERSIONS:
             for size in (0, len(data) - 1, len(data), len(data) + 1):
-                number = 7 if version not in VERSIONS else 12 if size < len(data) else 0
-                groups.add("version", number, [], version, size)
+                groups.add("version", 7, [], version, size)
+        for version in VERSIONS:
+            groups.add("version", 12, [], version, 0)
+            groups.add_fitting("version", [], (-1, 0, 1), version)
 
 
 def place_groups(groups, generator):
-    """Every place by itself: at its ends it is written, beyond them it is 7 whatever the slice's length is."""
+    """Every place by itself: at its ends it is written, beyond them it is 7 whatever the slice's length is.
+
+    A plan whose pieces are changed is refused as version 2, since as version 1 its last two may differ too.
+    """
     for depth, d, sizes in ((10, 23, (0, 3, N[-1])), (8, denominators(8)[-1], (N[-1], 0, 7))):
         plan = base_plan(depth, d, sizes, generator)
         data = block.write(plan)
         groups.begin(data)
         for at, case in enumerate(header_cases(plan) + place_cases(plan)):
             if breaks_rule_7(changed(plan, case.edits)):
+                version = 2 if case.edits[0][0][0] in PIECE else 1
                 size = (0, len(data) - 1, len(data), len(data) + 9)[at % 4]
-                groups.add("bad place", 7, case.edits, VERSIONS[0], size)
+                groups.add("bad place", 7, case.edits, version, size)
             else:
                 groups.add_fitting("good place", case.edits, ((0,), (1,), (17,), (-1, 0))[at % 4])
 
 
 def shape_cases(groups, generator):
-    """Every number of pieces in every section, orders in turn; then all of one order."""
+    """Every number of pieces in every section, orders in turn; then all of one order; then as version 2."""
     for n in N:
         groups.begin(block.write(base_plan(10, 24, (n, (n + 5) % len(N), (n + 10) % len(N)), generator)))
         groups.add_fitting("shape", [], (-1, 0, 2))
         groups.add_fitting("shape", same_orders(groups.plan, 1), (0,))
         groups.add_fitting("shape", same_orders(groups.plan, 0), (0,))
+        groups.add_fitting("other version", [], (n % 2 - 1,), 2)
+
+
+def second_shape_cases(groups, generator):
+    """Pieces n + 1 that are unlike piece n; written as version 1 only once all pieces are alike."""
+    for sizes in ((0, 1, N[-1]), (N[-1], 0, 7), (6, N[-1], 0)):
+        groups.begin(block.write(base_plan(8, 24, sizes, generator, 2), 2))
+        groups.add_fitting("shape, version 2", [], (-1, 0, 2), 2)
+        groups.add_fitting("shape, version 2", same_orders(groups.plan, 1), (0,), 2)
+        groups.add_fitting("shape, version 2", same_orders(groups.plan, 0), (0,), 2)
+        size = writer.length(groups.plan, 2)
+        for version in (1, *NO_VERSIONS):
+            groups.add("other version", 7, [], version, size - version % 2)
+        y, cb, cr = (last_pieces_alike(groups.plan, cmp) for cmp in range(3))
+        for version in VERSIONS:
+            groups.add_fitting("other version", y + cb + cr, (0,), version)
+        for edits in (cb + cr, y + cr, y + cb):
+            groups.add("other version", 7, edits, 1, size)
+
+
+def last_pieces_alike(plan, cmp):
+    """Edits that make piece n + 1 what piece n is."""
+    n = plan.num_pivots_minus2[cmp]
+    return ([((name, cmp, n + 1), getattr(plan, name)[cmp][n]) for name in ("mapping_idc", "poly_order_minus1")]
+            + [(("fp_poly_coef", cmp, n + 1, i), z) for i, z in enumerate(plan.fp_poly_coef[cmp][n])])
 
 
 def same_orders(plan, order):
@@ -157,12 +231,17 @@ def coefficients_to_write(d):
 
 
 def fraction_cases(groups):
-    """Each such number in each place of a row, and the ends of the numbers after the pieces, for several d."""
+    """Each such number in each place of a row, and the ends of the numbers after the pieces, for several d.
+
+    n is 0: a number that stands in both pieces is written as version 1, one in the last alone as version 2.
+    """
     for depth, d in ((8, 13), (10, 15), (10, 16), (8, 20), (10, 23), (8, 31), (10, 32)):
         groups.begin(block.write(small_plan(depth, d, order=2)))
         for at, z in enumerate(coefficients_to_write(d)):
             for i in range(3):
-                groups.add_fitting("fraction", [(("fp_poly_coef", (at + i) % 3, 0, i), z)], (at % 2,))
+                pieces = (1,) if (at + i) % 4 == 3 else (0, 1)
+                edits = [(("fp_poly_coef", (at + i) % 3, piece, i), z) for piece in pieces]
+                groups.add_fitting("fraction", edits, (at % 2,))
         numbers = limits.nlq_numbers(d)
         for at, v in enumerate((0, 1, (1 << d) - 1, 1 << d, (1 << d) + 1, numbers[-1])):
             for k, name in enumerate(("fp_hdr_in_max", "fp_linear_deadzone_slope", "fp_linear_deadzone_threshold")):
@@ -177,19 +256,20 @@ def several_places(groups, generator):
     good = [case for case in singles if not breaks_rule_7(changed(plan, case.edits))]
     for case in random_cases(plan, good, generator, 60) + random_cases(plan, singles, generator, 60):
         if breaks_rule_7(changed(plan, case.edits)):
-            groups.add("several places", 7, case.edits, VERSIONS[0], generator.below(SHORTEST_BLOCK))
+            groups.add("several places", 7, case.edits, 1, generator.below(SHORTEST_BLOCK[1]))
         else:
             groups.add_fitting("several places", case.edits, (generator.between(-1, 3),))
 
 
-def random_plans(groups, generator, number):
+def random_plans(groups, generator, number, version=1):
     for _ in range(number):
-        groups.begin(block.write(random_plan(((2, 2), (1920, 1080), (3840, 2160)), generator)))
-        groups.add_fitting("random plan", [], (-1, 0, 1 + generator.below(100)))
+        plan = random_plan(((2, 2), (1920, 1080), (3840, 2160)), generator, version)
+        groups.begin(block.write(plan, version))
+        groups.add_fitting("random plan", [], (-1, 0, 1 + generator.below(100)), version)
 
 
 def blocks_as_read(groups):
-    """Every block that block_vectors accepts, with the bytes before its header."""
+    """Every block that block_vectors accepts, with the bytes before its header; some as the other version too."""
     bases, cases = all_block_cases()
     accepted = {}
     for case in cases:
@@ -197,15 +277,45 @@ def blocks_as_read(groups):
         if data not in accepted and block.read(data)[0] == 0:
             accepted[data] = True
     for at, data in enumerate(accepted):
+        version = block.version_of(data)
         groups.begin(data)
-        groups.add_fitting("as read", [], (at % 3,))
+        groups.add_fitting("as read", [], (at % 3,), version)
+        if (version == 2 or at % 10 == 0) and block.has_place_for(3 - version, groups.plan):
+            groups.add_fitting("other version", [], (at % 3,), 3 - version)
+
+
+def differing_cases(groups, generator):
+    """Pieces n and n + 1 that differ in one field of one component: version 2 is written, version 1 is refused."""
+    plans = [small_plan(10, 20, order=2), small_plan(8, 21), longest_plan(10, 26, generator),
+             base_plan(8, 25, (3, 0, N[-1]), generator)]
+    for plan in plans:
+        groups.begin(block.write(plan))
+        for cmp in range(3):
+            for edits in one_field(plan, cmp):
+                groups.add("last pieces differ", 7, edits, 1, LONGEST_BLOCK[1])
+                groups.add("last pieces differ", 7, edits, 1, writer.length(plan, 1) - 1)
+                groups.add_fitting("last pieces differ", edits, (0,), 2)
+
+
+def one_field(plan, cmp):
+    """Edits that change the order of one of the two pieces, or one coefficient; in range with each of them."""
+    n = plan.num_pivots_minus2[cmp]
+    order = plan.poly_order_minus1[cmp][n]
+    for piece in (n, n + 1):
+        for i in range(limits.coefs(order)):
+            place = ("fp_poly_coef", cmp, piece, i)
+            z = plan.fp_poly_coef[cmp][n][i]
+            yield [(place, z + 1 if z < 0 else z - 1)]
+        # the third coefficient is 0, so that no more than the order differs
+        thirds = [(("fp_poly_coef", cmp, both, 2), 0) for both in (n, n + 1) if order == 1]
+        yield [(("poly_order_minus1", cmp, piece), 1 - order)] + thirds
 
 
 def zero_cases(groups):
     """The plan that a refused block gives."""
     groups.begin(b"")
-    for size in (0, SHORTEST_BLOCK - 1, SHORTEST_BLOCK, LONGEST_BLOCK):
-        for version in (*VERSIONS, 2):
+    for size in (0, SHORTEST_BLOCK[1] - 1, SHORTEST_BLOCK[2], LONGEST_BLOCK[2]):
+        for version in (*VERSIONS, 3):
             groups.add("plan of zeros", 7, [], version, size)
 
 
@@ -221,4 +331,9 @@ def all_groups():
     random_plans(groups, generator, 60)
     blocks_as_read(groups)
     zero_cases(groups)
+    generator = Generator(502)
+    second_slice_cases(groups, generator)
+    second_shape_cases(groups, generator)
+    differing_cases(groups, generator)
+    random_plans(groups, generator, 12, 2)
     return groups.all

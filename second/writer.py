@@ -19,7 +19,10 @@ def write_into(plan, version, out):
 
 
 def length(plan, version):
-    """The block's length, 0 where rule 7 refuses the plan or there is no such version."""
-    if version not in limits.VERSIONS or breaks_rule_7(plan):
-        return 0
-    return len(block.write(plan, version))
+    """The block's length, 0 where rule 7 refuses the plan or the version."""
+    return 0 if refuses(plan, version) else len(block.write(plan, version))
+
+
+def refuses(plan, version):
+    """Rule 7: a plan out of range, another version than 1 and 2, version 1 where pieces n and n + 1 differ."""
+    return version not in limits.VERSIONS or breaks_rule_7(plan) or not block.has_place_for(version, plan)

@@ -11,17 +11,17 @@ import limits
 import writer
 from block_cases import HEADER_FIELDS, Base
 from jobs import breaks_rule_7
-from limits import HEADER_BYTES, TRAILER_BYTES, VERSIONS
+from limits import HEADER_BYTES, LONGEST_BLOCK, TRAILER_BYTES, VERSIONS
 from places import changed
 
 # A writer is its two calls; the right one is the module writer.
 Writer = namedtuple("Writer", "write_into length")
 
 
-def lending(bytes_of, breaks=breaks_rule_7):
+def lending(bytes_of, refuses=writer.refuses):
     """A writer of other bytes, or with another rule 7; its length follows from both."""
     def length(plan, version):
-        return 0 if version not in VERSIONS or breaks(plan) else len(bytes_of(plan, version))
+        return 0 if refuses(plan, version) else len(bytes_of(plan, version))
 
     def write_into(plan, version, out):
         size = length(plan, version)
@@ -57,34 +57,42 @@ def pivots_summed(plan):
                           for cmp in range(3) for i in range(limits.pivots(plan.num_pivots_minus2[cmp]))])
 
 
+def sections_of(plan, version):
+    return [block.section_bytes(plan, cmp, version) for cmp in range(3)]
+
+
 def other_sections(change):
     """The block of other sections, which `change` gives; the trailer fits them."""
-    def bytes_of(plan, version):
-        sections = [block.section_bytes(plan, cmp) for cmp in range(3)]
-        return block.assemble(block.header_bytes(plan), change(plan, sections), version)
-    return lending(bytes_of)
+    return lending(lambda plan, version: block.assemble(block.header_bytes(plan), change(plan, version), version))
 
 
-def chroma_swapped(plan, sections):
-    y, cb, cr = sections
+def chroma_swapped(plan, version):
+    y, cb, cr = sections_of(plan, version)
     return [y, cr, cb]
 
 
-def last_piece_lost(plan, sections):
-    """n pieces where a section has n + 1; one of a single piece is as it should be."""
-    def cut(cmp):
-        n, section = plan.num_pivots_minus2[cmp], sections[cmp]
-        last = 2 + 5 * limits.coefs(plan.poly_order_minus1[cmp][n]) if n > 0 else 0
+def last_piece_lost(plan, version):
+    """One piece less than the version has; a section of a single piece is as it should be."""
+    def cut(cmp, section):
+        last = limits.carried(plan.num_pivots_minus2[cmp], version) - 1
+        size = 2 + 5 * limits.coefs(plan.poly_order_minus1[cmp][last]) if last > 0 else 0
         after = len(section) - 2 - 3 * 5
-        return section[:after - last] + section[after:]
-    return [cut(cmp) for cmp in range(3)]
+        return section[:after - size] + section[after:]
+    return [cut(cmp, section) for cmp, section in enumerate(sections_of(plan, version))]
 
 
-def three_coefficients(plan, sections):
+def three_coefficients(plan, version):
     """The third coefficient of every piece, used or not."""
-    full = changed(plan, [(("poly_order_minus1", cmp, piece), 1) for cmp in range(3)
-                          for piece in range(limits.pieces(plan.num_pivots_minus2[cmp]))])
-    return [block.section_bytes(full, cmp) for cmp in range(3)]
+    return sections_of(changed(plan, [(("poly_order_minus1", cmp, piece), 1) for cmp in range(3)
+                                      for piece in range(limits.pieces(plan.num_pivots_minus2[cmp]))]), version)
+
+
+def last_pieces_repeated(plan, version):
+    """Piece n twice, whatever piece n + 1 is."""
+    alike = changed(plan, [])
+    for cmp in range(3):
+        block.repeat_last_piece(alike, cmp)
+    return sections_of(alike, version)
 
 
 def other_fields(change):
@@ -147,6 +155,10 @@ def sign_lost(plan, data, fields):
         put(data, integer, get(data, integer) % 128)
 
 
+def version_1_always(plan, data, fields):
+    put(data, fields["version"], 1)
+
+
 def distances(change):
     """The trailer's four distances are those that `change` gives."""
     def change_bytes(plan, data, fields):
@@ -200,11 +212,17 @@ def low_bytes(plan, version, out, number, size, after):
 
 def twelve_first(plan, version, out, number, size, after):
     """12 by the shortest block, before the plan is looked at."""
-    return (12 if len(out) < limits.SHORTEST_BLOCK else number), size, after
+    return (12 if len(out) < limits.SHORTEST_BLOCK[1] else number), size, after
 
 
 def twelve_for_seven(plan, version, out, number, size, after):
     return 12 if number == 7 else number, size, after
+
+
+def twelve_before_pieces(plan, version, out, number, size, after):
+    """12 by the length that version 1 would have, before the last two pieces are compared."""
+    taken = number == 7 and version == 1 and not breaks_rule_7(plan)
+    return (12 if taken and len(out) < len(carried_bytes(plan, version)) else number), size, after
 
 
 def short_filled(plan, version, out, number, size, after):
@@ -225,7 +243,29 @@ def versions_as(seen):
 
 def forgiving(mended):
     """Rule 7 tests what `mended` makes of the plan, and that is written."""
-    return lending(lambda plan, version: block.write(mended(plan), version), lambda plan: breaks_rule_7(mended(plan)))
+    return lending(lambda plan, version: block.write(mended(plan), version),
+                   lambda plan, version: writer.refuses(mended(plan), version))
+
+
+def carried_bytes(plan, version):
+    """The pieces that the version carries, and the others lost."""
+    return block.assemble(block.header_bytes(plan), sections_of(plan, version), version)
+
+
+ORDER = "order"
+PARTS = (ORDER, 0, 1, 2)        # of a piece of polynomials: its order, its coefficients
+
+
+def comparing(parts, components=range(3)):
+    """Version 1 is refused where pieces n and n + 1 differ in these parts, in these components."""
+    def part(plan, cmp, piece, name):
+        return plan.poly_order_minus1[cmp][piece] if name == ORDER else plan.fp_poly_coef[cmp][piece][name]
+
+    def differ(plan):
+        return any(part(plan, cmp, n, name) != part(plan, cmp, n + 1, name) for name in parts
+                   for cmp, n in enumerate(plan.num_pivots_minus2) if cmp in components)
+    return lending(carried_bytes, lambda plan, version: version not in VERSIONS or breaks_rule_7(plan)
+                   or version == 1 and differ(plan))
 
 
 def unused_cleared(plan):
@@ -287,12 +327,29 @@ WRONG = {
     "12 after a part was written": but(short_filled),
     "7 after the slice was cleared": but(bad_cleared),
     "every version taken": versions_as(lambda version: VERSIONS[0]),
+    "every version taken for 2": versions_as(lambda version: 2),
+    "version 3 taken for 2": versions_as(lambda version: 2 if version == 3 else version),
+    "version 2 refused": lending(block.write, lambda plan, version: version != 1 or writer.refuses(plan, version)),
+    "version 1 in every trailer": other_fields(version_1_always),
+    "version 1's sections in version 2": other_sections(lambda plan, version: sections_of(plan, 1)),
+    "piece n twice in version 2": other_sections(last_pieces_repeated),
+    "version 1 of pieces that differ": comparing(()),
+    "only luma's pieces compared": comparing(PARTS, [0]),
+    "only Cb's pieces compared": comparing(PARTS, [1]),
+    "Cr's pieces not compared": comparing(PARTS, [0, 1]),
+    "only the orders compared": comparing([ORDER]),
+    "only the first coefficients compared": comparing([0]),
+    "the orders not compared": comparing([0, 1, 2]),
+    "the third coefficients not compared": comparing([ORDER, 0, 1]),
+    "12 before the pieces are compared": but(twelve_before_pieces),
     "a version by its low byte": versions_as(lambda version: version % 256),
     "unused places not tested": forgiving(unused_cleared),
     "the method not tested": forgiving(methods_cleared),
     "the darkest luminance not tested": forgiving(luminance_cleared),
     "a length though the version is refused": Writer(
-        writer.write_into, lambda plan, version: writer.length(plan, VERSIONS[0])),
+        writer.write_into, lambda plan, version: writer.length(plan, version if version in VERSIONS else VERSIONS[0])),
+    "a length though the pieces differ": Writer(
+        writer.write_into, lambda plan, version: writer.length(plan, version) or writer.length(plan, VERSIONS[-1])),
     "the longest block's length": Writer(
-        writer.write_into, lambda plan, version: limits.LONGEST_BLOCK if writer.length(plan, version) else 0),
+        writer.write_into, lambda plan, version: LONGEST_BLOCK[version] if writer.length(plan, version) else 0),
 }

@@ -1,15 +1,13 @@
 // How long texts and blocks are.
-use plan::limits::MOST_N;
+use plan::limits::PIECES;
+use plan::limits::PIVOTS;
 use plan::limits::ROW;
 
-// The longest text of a block has less than 7,000 bytes.
+// The longest text of a block has less than 7,500 bytes.
 pub(crate) const TEXT_ROOM: usize = 8192;
 
 // The longest section: n, the pivots, the pieces, and what inverse quantization takes (docs/RULES.md, "Section").
-const SECTION_ROOM: usize = 1
-    + 2 * ((MOST_N as usize) + 2)
-    + ((MOST_N as usize) + 1) * (2 + 5 * ROW)
-    + 17;
+const SECTION_ROOM: usize = 1 + 2 * PIVOTS + PIECES * (2 + 5 * ROW) + 17;
 
 // Header, sections, trailer.
 pub(crate) const BLOCK_ROOM: usize = 24 + 3 * SECTION_ROOM + 12;

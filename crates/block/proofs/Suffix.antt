@@ -11,12 +11,11 @@ use borrow.Author.Tests.{ne-eqb}
 use Rattle.plan.specs.declared.Header.{Header}
 use Rattle.plan.specs.declared.Component.{Component}
 use Rattle.plan.specs.Ranges.{header-fits}
-use Rattle.plan.specs.Rule7.{component-fits}
 use Rattle.fields.specs.declared.Name.{Name}
 use Rattle.fields.specs.Fields.{Read, refused, got, no-name}
 use Rattle.fields.proofs.Giving.{Gives}
 use Rattle.sections.specs.Sections.{section}
-use Rattle.sections.proofs.Fitting.{section-gives}
+use Rattle.sections.proofs.Fitting.{Fits, section-gives}
 use Rattle.block.specs.declared.Reading.{Reading}
 use Rattle.frame.specs.declared.Trailer.{Trailer}
 use Rattle.frame.specs.Frame.{trailer, trailer-fits, header, zeros-fit, wrong-column}
@@ -39,15 +38,15 @@ module _ (p s : List ℕ) where
       let e : length (p ++ s) - 12 ≡ n + (length s - 12) = omega (arith, length-append p s) in
       (e, rw (e, length-append p s, part-moved (length s - 12) (length s)))
 
-  section-moved : (k a b : ℕ) (h : Header) (next next' : Component → Reading) → ((c : Component) → next' c ≡ moved n (next c))
-      → with-section (p ++ s) h k (n + a) (n + b) next' ≡ moved n (with-section s h k a b next)
+  section-moved : (version k a b : ℕ) (h : Header) (next next' : Component → Reading) → ((c : Component) → next' c ≡ moved n (next c))
+      → with-section (p ++ s) version h k (n + a) (n + b) next' ≡ moved n (with-section s version h k a b next)
   unfolding met
-  section-moved k a b h next next' f = rw (part-moved a b) (by (section h k x) (section-gives h k x))
+  section-moved version k a b h next next' f = rw (part-moved a b) (by (section version h k x) (section-gives h k version x))
     where
       x : List ℕ
       x = part s a b
 
-      by : (r : Read Component) → Gives (λ c. component-fits h c ≡ true) r → met (n + a) x r next' ≡ moved n (met a x r next)
+      by : (r : Read Component) → Gives (Fits h k version) r → met (n + a) x r next' ≡ moved n (met a x r next)
       by (refused m name rest) some =
           let l : n + a + (length x - length rest) ≡ n + (a + (length x - length rest)) = omega arith in
           rw (ne-eqb m 0 some, l)
@@ -61,9 +60,9 @@ module _ (p s : List ℕ) where
         let e1 : n + t - x .d1 ≡ n + (t - x .d1) = omega (arith, w) in
         let e2 : n + t - x .d2 ≡ n + (t - x .d2) = omega (arith, w) in
         rw (e0, e1, e2)
-        (section-moved 0 (t - x .d0) (t - x .d1) h _ _ (λ y.
-        section-moved 1 (t - x .d1) (t - x .d2) h _ _ (λ cb.
-        section-moved 2 (t - x .d2) t h _ _ (λ cr. refl))))
+        (section-moved (x .version) 0 (t - x .d0) (t - x .d1) h _ _ (λ y.
+        section-moved (x .version) 1 (t - x .d1) (t - x .d2) h _ _ (λ cb.
+        section-moved (x .version) 2 (t - x .d2) t h _ _ (λ cr. refl))))
 
   body-moved : (t : ℕ) (x : Trailer) → Placed (length s) t x → body (p ++ s) (n + t) x ≡ moved n (body s t x)
   unfolding body

@@ -32,16 +32,16 @@ unfoldable pub met : ℕ → List ℕ → Read Component → (Component → Read
 met a s (refused k name rest) next = refusal k (a + (length s - length rest)) name
 met a s (got c rest) next = next c
 
--- section k, the bytes from a up to b
-abbrev pub with-section : List ℕ → Header → ℕ → ℕ → ℕ → (Component → Reading) → Reading
-with-section bytes h k a b next = met a (part bytes a b) (section h k (part bytes a b)) next
+-- section k of a version, the bytes from a up to b
+abbrev pub with-section : List ℕ → ℕ → Header → ℕ → ℕ → ℕ → (Component → Reading) → Reading
+with-section bytes version h k a b next = met a (part bytes a b) (section version h k (part bytes a b)) next
 
 -- the sections from first byte to last
 unfoldable pub sections : List ℕ → ℕ → Trailer → Header → Reading
 sections bytes t x h =
-    with-section bytes h 0 (t - x .d0) (t - x .d1) (λ y.
-    with-section bytes h 1 (t - x .d1) (t - x .d2) (λ cb.
-    with-section bytes h 2 (t - x .d2) t (λ cr.
+    with-section bytes (x .version) h 0 (t - x .d0) (t - x .d1) (λ y.
+    with-section bytes (x .version) h 1 (t - x .d1) (t - x .d2) (λ cb.
+    with-section bytes (x .version) h 2 (t - x .d2) t (λ cr.
     record { number = 0; place = 0; field = no-name; plan = record { header = h; y = y; cb = cb; cr = cr } })))
 
 -- the header (4), and then the sections

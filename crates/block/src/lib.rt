@@ -42,12 +42,12 @@ fn refused(number: u8, place: usize, field: Name) -> Reading
     }
 }
 
-// Section k, the bytes from a up to b. It is a part of the slice, so that its fields cannot run into the next one's.
-fn part(bytes: &[u8], a: usize, b: usize, h: Header, k: usize) -> Found
+// Section k of a version, the bytes from a up to b. It is a part of the slice, so that its fields cannot run into the next one's.
+fn part(bytes: &[u8], a: usize, b: usize, version: u16, h: Header, k: usize) -> Found
     requires { ⌜ (a ≤ b) × (b ≤ length (now bytes)) ⌝ }
-    ensures { λ r. ⌜ (r ≡ section-at (now (bytes .entry)) a b h k) × (a + r .place ≤ b) ⌝ }
+    ensures { λ r. ⌜ (r ≡ section-at (now (bytes .entry)) a b version h k) × (a + r .place ≤ b) ⌝ }
 {
-    read_section(&bytes[a..b], h, k)
+    read_section(&bytes[a..b], version, h, k)
 }
 
 // The sections from first byte to last: the first failure met is the answer.
@@ -59,19 +59,19 @@ fn sections(bytes: &[u8], t: usize, x: Trailer, h: Header) -> Reading
     let a = t - (x.d0 as usize);
     let b = t - (x.d1 as usize);
     let c = t - (x.d2 as usize);
-    let y = part(bytes, a, b, h, 0);
+    let y = part(bytes, a, b, x.version, h, 0);
     let first = y.component;
     if y.number != 0 {
         let field = y.field;
         return refused(y.number, a + y.place, field);
     }
-    let cb = part(bytes, b, c, h, 1);
+    let cb = part(bytes, b, c, x.version, h, 1);
     let second = cb.component;
     if cb.number != 0 {
         let field = cb.field;
         return refused(cb.number, b + cb.place, field);
     }
-    let cr = part(bytes, c, t, h, 2);
+    let cr = part(bytes, c, t, x.version, h, 2);
     let third = cr.component;
     if cr.number != 0 {
         let field = cr.field;

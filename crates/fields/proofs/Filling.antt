@@ -9,7 +9,7 @@ use lib.Seq.{sets}
 use Rattle.fields.specs.declared.Cursor.{Cursor}
 use Rattle.fields.specs.Fields.{Read, refused, got, _then_, repeated, padded}
 use Rattle.fields.specs.inner.Cursors.{from, Reads, filled}
-use Rattle.fields.proofs.Following.{chain, alike}
+use Rattle.fields.proofs.Following.{chain, alike, joined-by}
 
 module _ {A : Type 0} where
   sets-cons : (x : A) (L : List A) (i : ℕ) (l : List A) → sets (x ∷ L) (suc i) l ≡ x ∷ sets L i l
@@ -76,8 +76,4 @@ module _ {A : Type 0} {s : List ℕ} {one : ℕ → List ℕ → Read A} {n : �
 -- what follows takes the list as the array holds it
 pub listed : {A B : Type 0} {s : List ℕ} {c c' c'' : Cursor} {L : List A} {b : B} (m : ℕ) (z : A) (n : ℕ) (one : ℕ → List ℕ → Read A) (next : List A → List ℕ → Read B)
     → Reads s c (filled m z n one) L c' → Reads s c' (next L) b c'' → Reads s c (λ x. repeated 0 n one x then λ l rest. next (padded m z l) rest) b c''
-listed {A} {s = s} {c} m z n one next p q = record { is = q .is ∙ chain next p ∙ alike s c (λ x. after (repeated 0 n one x)); inside = λ h. q .inside (p .inside h) }
-  where
-    after : (r : Read (List A)) → ((r then λ l rest. got (padded m z l) rest) then next) ≡ (r then λ l rest. next (padded m z l) rest)
-    after (refused k name rest) = refl
-    after (got l rest) = refl
+listed m z n one next p q = joined-by (repeated 0 n one) (padded m z) next p q

@@ -30,6 +30,19 @@ pub joined : {A B : Type 0} {s : List ℕ} {c c' c'' : Cursor} {one : List ℕ �
     → Reads s c one a c' → Reads s c' (next a) b c'' → Reads s c (λ b. one b then next) b c''
 joined next p q = record { is = q .is ∙ chain next p; inside = λ h. q .inside (p .inside h) }
 
+-- the same, where what follows takes what is made of the first
+pub joined-by : {A B C : Type 0} {s : List ℕ} {c c' c'' : Cursor} {b : B} {x : C} (one : List ℕ → Read A) (make : A → B) (next : B → List ℕ → Read C)
+    → Reads s c (λ y. one y then λ a rest. got (make a) rest) b c' → Reads s c' (next b) x c'' → Reads s c (λ y. one y then λ a rest. next (make a) rest) x c''
+joined-by {A} {s = s} {c} one make next p q = record { is = q .is ∙ chain next p ∙ alike s c (λ y. after (one y)); inside = λ h. q .inside (p .inside h) }
+  where
+    after : (r : Read A) → ((r then λ a rest. got (make a) rest) then next) ≡ (r then λ a rest. next (make a) rest)
+    after (refused k name rest) = refl
+    after (got a rest) = refl
+
+-- readings that come to the same read the same
+pub reads-as : {A : Type 0} {s : List ℕ} {c c' : Cursor} {p q : List ℕ → Read A} {a : A} → ((b : List ℕ) → p b ≡ q b) → Reads s c p a c' → Reads s c q a c'
+reads-as {s = s} {c} e r = record { is = r .is ∙ alike s c e; inside = r .inside }
+
 -- nothing more is read
 pub done : {A : Type 0} {s : List ℕ} {c : Cursor} {a : A} → Reads s c (got a) a c
 done = record { is = refl; inside = λ h. h }

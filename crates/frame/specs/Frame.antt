@@ -6,6 +6,7 @@ use lib.Dec.{ltb, eqb}
 use lib.ListN.{take, drop}
 use Rattle.plan.specs.declared.Header.{Header}
 use Rattle.plan.specs.Ranges.{all, format-tests, size-tests}
+use Rattle.plan.specs.Versions.{known-version}
 use Rattle.fields.specs.declared.Name.{Name}
 use Rattle.fields.specs.Fields.{number-at}
 use Rattle.frame.specs.declared.Trailer.{Trailer}
@@ -14,10 +15,10 @@ use Rattle.frame.specs.declared.Trailer.{Trailer}
 unfoldable pub trailer : List ℕ → Trailer
 trailer bytes = record { a = number-at bytes 0 2; d0 = number-at bytes 2 2; d1 = number-at bytes 4 2; d2 = number-at bytes 6 2; version = number-at bytes 8 2; last = number-at bytes 10 2 }
 
--- rule 2 is not met: version 1, last field 0, A - D0 = 24, and D0 > D1 > D2 > 0, all over unbounded numbers
+-- rule 2 is not met: version 1 or 2, last field 0, A - D0 = 24, and D0 > D1 > D2 > 0, all over unbounded numbers
 abbrev pub trailer-tests : Trailer → List Bool
 trailer-tests x =
-    eqb (x .version) 1 ∷ eqb (x .last) 0 ∷ eqb (x .a) (x .d0 + 24)
+    known-version (x .version) ∷ eqb (x .last) 0 ∷ eqb (x .a) (x .d0 + 24)
     ∷ ltb (x .d1) (x .d0) ∷ ltb (x .d2) (x .d1) ∷ ltb 0 (x .d2) ∷ []
 
 unfoldable pub trailer-fits : Trailer → Bool

@@ -6,6 +6,7 @@ use fields::numbers::four;
 use fields::numbers::one;
 use fields::numbers::two;
 use plan::Header;
+use plan::versions::is_known;
 ghost use mathlib.Core.Path.{_≡_};
 ghost use Rattle.frame.specs.Frame.{trailer, trailer-fits, header, zeros-fit};
 
@@ -45,7 +46,7 @@ pub fn trailer_fits(x: Trailer) -> bool
 {
     let header = (x.a as u32) == (x.d0 as u32) + 24;
     let falling = (x.d1 < x.d0) & ((x.d2 < x.d1) & (0 < x.d2));
-    (x.version == 1) & ((x.last == 0) & (header & falling))
+    is_known(x.version) & ((x.last == 0) & (header & falling))
 }
 
 // The header, which is the whole of s.

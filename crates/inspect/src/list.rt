@@ -88,8 +88,8 @@ fn show_piece(p: usize, q: Piece, d: u8) {
     }
 }
 
-fn show_pieces(n: u8, pieces: [Piece; PIECES], d: u8) {
-    let count = pieces_of(n);
+fn show_pieces(version: u16, n: u8, pieces: [Piece; PIECES], d: u8) {
+    let count = pieces_of(version, n);
     let mut p: usize = 0;
     while p < count {
         let q = pieces[p];
@@ -110,7 +110,8 @@ fn show_nlq(q: Nlq, d: u8) {
     show_fixed(THRESHOLD, signed(q.threshold), d);
 }
 
-pub(crate) fn show_component(c: Component, d: u8) {
+// Of the pieces those that the block carries.
+pub(crate) fn show_component(version: u16, c: Component, d: u8) {
     let n = c.n;
     let preds = c.preds;
     let pieces = c.pieces;
@@ -120,7 +121,7 @@ pub(crate) fn show_component(c: Component, d: u8) {
     say_pivots(n, preds, false);
     say_name(PIVOT_VALUE);
     say_pivots(n, preds, true);
-    show_pieces(n, pieces, d);
+    show_pieces(version, n, pieces, d);
     show_nlq(nlq, d);
 }
 

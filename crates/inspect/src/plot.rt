@@ -2,6 +2,7 @@
 //
 // A panel is 262,144 by 65,536 units, so that every number in it is whole: a code is 256 units wide, or 1,024 where
 // there are 256 codes, and a mapped sample v stands v units above the panel's lower edge.
+use crate::counts::between_pivots;
 use crate::counts::pair;
 use crate::counts::pieces_of;
 use crate::counts::say_pivots;
@@ -31,6 +32,8 @@ use plan::Component;
 use plan::Header;
 use plan::limits::PIVOTS;
 ghost use Prim.Native.Nat.{_≤_};
+
+const PANEL_WIDTH: usize = 262144;
 
 // The last code, by BL_bit_depth_minus8: reading has seen to it that it is 0 or 2.
 fn last_code(bl: u8) -> u16
@@ -85,9 +88,15 @@ fn say_piece(p: usize, x: usize, width: usize) {
     put(PIVOT_END);
 }
 
-// The pieces, and a line at the last pivot. What they leave of the panel is outside the pivots.
-fn say_pieces(n: u8, preds: [u16; PIVOTS], bl: u8) {
-    let count = pieces_of(n);
+// What the last pivot leaves of the panel.
+fn width_above(x: usize) -> usize {
+    if x < PANEL_WIDTH { PANEL_WIDTH - x } else { 0 }
+}
+
+// The pieces, of which one may stand above the last pivot, and a line at the last pivot. What they leave of the panel is
+// outside the pivots.
+fn say_pieces(version: u16, n: u8, preds: [u16; PIVOTS], bl: u8) {
+    let count = between_pivots(n);
     let mut x = across(preds[0], bl);
     let mut p: usize = 0;
     put(PANEL);
@@ -96,6 +105,9 @@ fn say_pieces(n: u8, preds: [u16; PIVOTS], bl: u8) {
         say_piece(p, x, width);
         x += width;
         p += 1;
+    }
+    if count < pieces_of(version, n) {
+        say_piece(count, x, width_above(x));
     }
     put_number(LAST_PIVOT, x);
 }
@@ -109,7 +121,7 @@ fn greater(a: usize, b: usize) -> usize {
 }
 
 // The title of panel k, with the least and the greatest mapped sample.
-fn say_title(k: usize, n: u8, table: &[u16; 1024], bl: u8) {
+fn say_title(k: usize, pieces: usize, table: &[u16; 1024], bl: u8) {
     let last = last_code(bl);
     let mut low: usize = 65535;
     let mut high: usize = 0;
@@ -120,7 +132,7 @@ fn say_title(k: usize, n: u8, table: &[u16; 1024], bl: u8) {
         high = greater(high, v);
         code += 1;
     }
-    put_number(k, pieces_of(n));
+    put_number(k, pieces);
     put_number(LAST_CODE, pair(last));
     put_number(LEAST, low);
     put_number(GREATEST, high);
@@ -128,14 +140,14 @@ fn say_title(k: usize, n: u8, table: &[u16; 1024], bl: u8) {
 }
 
 // The panel of a component, the first, second or third.
-pub(crate) fn plot_component(k: usize, h: Header, c: Component) {
+pub(crate) fn plot_component(k: usize, version: u16, h: Header, c: Component) {
     let bl = h.bl;
     let n = c.n;
     let preds = c.preds;
     let table = mapped_table(h, c);
-    say_title(k, n, &table, bl);
+    say_title(k, pieces_of(version, n), &table, bl);
     say_pivots(n, preds, true);
-    say_pieces(n, preds, bl);
+    say_pieces(version, n, preds, bl);
     trace(CURVE, &table, bl);
     trace(CUT, &table, bl);
     put_number(AXES, pair(last_code(bl)));

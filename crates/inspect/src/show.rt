@@ -14,6 +14,7 @@ use plan::Plan;
 use saying::bytes_before;
 use saying::say_argument;
 use saying::say_part;
+use saying::trailer_number;
 
 // The file's name and length, and the header.
 fn show_start(i: usize, bytes: &[u8], before: usize, h: Header, plotted: bool) {
@@ -27,14 +28,20 @@ fn show_start(i: usize, bytes: &[u8], before: usize, h: Header, plotted: bool) {
     show_header(h);
 }
 
+// The trailer's version.
+fn version_of(bytes: &[u8]) -> u16 {
+    (trailer_number(bytes, 4) % 65536) as u16
+}
+
 // A component, which section k - 1 carries.
 fn show_section(k: usize, bytes: &[u8], before: usize, h: Header, c: Component, plotted: bool) {
+    let version = version_of(bytes);
     if plotted {
-        plot_component(k, h, c);
+        plot_component(k, version, h, c);
         return;
     }
     say_part(k, bytes, before);
-    show_component(c, h.d);
+    show_component(version, c, h.d);
 }
 
 fn show_end(bytes: &[u8], before: usize, plotted: bool) {

@@ -1,12 +1,12 @@
 // The piece of a sample: the pivots (5.3.2), the search among them (5.4.2.2) and the clamp to them (5.4.2.3.2).
 use plan::limits::PIVOTS;
 ghost use mathlib.Core.Path.{_≡_};
-ghost use Prim.Native.Nat.{ℕ, _<_, _≤_, _^_};
+ghost use Prim.Native.Nat.{ℕ, _+_, _<_, _≤_, _^_};
 ghost use Rattle.runs.specs.inner.Loops.{at};
 ghost use Rattle.runs.specs.inner.Tables.{table};
 ghost use Rattle.plan.specs.Ranges.{most-n};
 ghost use Rattle.plan.specs.Rule7.{pivot-places};
-ghost use Rattle.standard.specs.Mapping.{pivot-value, piece, clamped};
+ghost use Rattle.standard.specs.Mapping.{pivot-value, pivot-idx, clamped};
 
 // The pivots, each the sum of the predictions up to it. Predictions past the last pivot are 0.
 pub(crate) fn pivots_of(preds: [u16; PIVOTS]) -> [u16; PIVOTS]
@@ -24,10 +24,10 @@ pub(crate) fn pivots_of(preds: [u16; PIVOTS]) -> [u16; PIVOTS]
     pivots
 }
 
-// The piece of a sample that is not clamped yet: the first whose next pivot is greater, or the last.
+// The piece of a sample that is not clamped yet and is below the last pivot: the first whose next pivot is greater.
 pub(crate) fn piece_of(pivots: &[u16; PIVOTS], n: usize, s: u16) -> usize
-    requires { ⌜ n ≤ most-n ⌝ }
-    ensures is { λ r. ⌜ r ≡ piece (at (now (pivots .entry))) n s ⌝ }
+    requires { ⌜ (n ≤ most-n) × (s < at (now pivots) (n + 1)) ⌝ }
+    ensures is { λ r. ⌜ r ≡ pivot-idx (at (now (pivots .entry))) n s ⌝ }
     ensures low { λ r. ⌜ r ≤ n ⌝ }
 {
     let mut i = 0;

@@ -22,7 +22,7 @@ abbrev linear-piece : Piece
 linear-piece = record { idc = 0; order = 0; row = pos 0 ∷ pos 32768 ∷ pos 0 ∷ [] }
 
 abbrev linear : Component
-linear = record { n = 0; preds = 0 ∷ 1023 ∷ replicate 15 0; pieces = linear-piece ∷ replicate 16 zero-piece; nlq = no-component .nlq }
+linear = record { n = 0; preds = 0 ∷ 1023 ∷ replicate 15 0; pieces = linear-piece ∷ linear-piece ∷ replicate 15 zero-piece; nlq = no-component .nlq }
 
 abbrev four-rows : Plan
 four-rows = record { header = four-rows-header; y = linear; cb = linear; cr = linear }

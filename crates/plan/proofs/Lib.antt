@@ -6,3 +6,4 @@ pub mod Anywhere
 pub mod Coefficients
 pub mod Sizes
 pub mod Facts
+pub mod Carrying

@@ -1,4 +1,5 @@
 pub mod Ranges
 pub mod Rule7
+pub mod Versions
 pub mod Parameters
 pub mod inner

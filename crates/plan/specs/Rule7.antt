@@ -27,12 +27,12 @@ piece-places = 17
 abbrev pub row-places : ℕ
 row-places = 3
 
--- of num_pivots_minus2 n + 2 pivots and n + 1 pieces are used, of poly_order_minus1 order + 2 coefficients
+-- of num_pivots_minus2 n + 2 pivots and n + 2 pieces are used, of poly_order_minus1 order + 2 coefficients
 abbrev pub pivots-used : ℕ → ℕ
 pivots-used n = n + 2
 
 abbrev pub pieces-used : ℕ → ℕ
-pieces-used n = n + 1
+pieces-used n = n + 2
 
 abbrev pub coefficients-used : ℕ → ℕ
 coefficients-used order = order + 2

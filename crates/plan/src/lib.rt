@@ -1,6 +1,7 @@
 // A plan: every field of a composing block, as a value that travels with each call.
 pub mod limits; // the largest sizes and counts, and the places of a plan's arrays
 pub mod ranges; // the ranges of the header's fields
+pub mod versions; // the versions of a block, and how many pieces each carries
 
 use limits::PIECES;
 use limits::PIVOTS;
@@ -43,7 +44,7 @@ pub struct Nlq {
     pub threshold: u64,
 }
 
-// One component: num_pivots_minus2, pred_pivot_value, the pieces and the residual's numbers.
+// One component: num_pivots_minus2, n + 2 of pred_pivot_value, n + 2 pieces and the residual's numbers.
 // Places beyond the last pivot, the last piece or a piece's order are 0.
 #[repr(C)]
 pub struct Component {

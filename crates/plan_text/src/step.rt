@@ -16,6 +16,8 @@ use fields::numbers::four;
 use fields::numbers::two;
 use plan::limits::MOST_N;
 use plan::limits::ROW;
+use plan::versions::is_known;
+use plan::versions::pieces_carried;
 use std::num::wrapping_add_usize;
 use std::num::wrapping_sub_usize;
 
@@ -26,7 +28,7 @@ pub(crate) struct Step {
     pub(crate) component: usize,
     pub(crate) piece: usize,
     pub(crate) left: usize, // how many pivots, or coefficients, come after it
-    pub(crate) n: usize, // num_pivots_minus2
+    pub(crate) pieces: usize, // how many the section carries
     pub(crate) version: usize,
     pub(crate) starts: usize, // where the header and the sections begin, in 16 bits each; the last begun is the lowest
 }
@@ -39,7 +41,7 @@ pub(crate) fn start() -> Step {
         component: 0,
         piece: 0,
         left: 0,
-        n: 0,
+        pieces: 0,
         version: 0,
         starts: 0,
     }
@@ -52,11 +54,27 @@ pub(crate) fn begun(s: Step) -> Step {
     t
 }
 
-// The counts: after one that no block may have the walk ends, as nobody can say what follows it. n + 1 pivots come after
-// the first, and poly_order_minus1 + 1 coefficients; a row of a plan has a place for each that the largest order uses.
+// The version and the counts: after one that no block may have the walk ends, as nobody can say what follows it. n + 1
+// pivots come after the first, and poly_order_minus1 + 1 coefficients; a row of a plan has a place for each that the
+// largest order uses.
+//
+// After such a version a header of 24 bytes stands for all that follows, and one byte for each section.
+fn versioned(s: Step, version: usize) -> Step {
+    let mut t = s;
+    t.version = version % 65536;
+    if is_known(t.version as u16) {
+        return t;
+    }
+    t.at = 24;
+    let mut u = begun(t);
+    u.at = 25;
+    u.kind = CUT;
+    u
+}
+
 fn counted(s: Step, n: usize) -> Step {
     let mut t = s;
-    t.n = n;
+    t.pieces = pieces_carried((s.version % 65536) as u16, (n % 256) as u8);
     t.left = n;
     t.piece = 0;
     if (MOST_N as usize) < n {
@@ -84,13 +102,12 @@ fn after_pivot(s: Step) -> Step {
     t
 }
 
-// n + 1 pieces.
 fn after_coefficient(s: Step) -> Step {
     let mut t = s;
     if 0 < s.left {
         t.left = s.left - 1;
         t.kind = POLY_COEF_INT;
-    } else if s.piece < s.n {
+    } else if wrapping_add_usize(s.piece, 1) < s.pieces {
         t.piece = wrapping_add_usize(s.piece, 1);
         t.kind = PIECE;
     }
@@ -109,6 +126,7 @@ fn after_section(s: Step) -> Step {
 // What the field of this kind, which holds this number, changes of the walk.
 fn taken(s: Step, kind: usize, value: usize) -> Step {
     match kind {
+        VERSION => versioned(s, value),
         COMPONENT => begun(s),
         NUM_PIVOTS_MINUS2 => counted(s, value),
         MORE_PIVOTS => after_pivot(s),
@@ -124,9 +142,6 @@ pub(crate) fn next(s: Step, value: usize) -> Step {
     let mut t = s;
     t.at = wrapping_add_usize(s.at, span_of(s.kind));
     t.kind = wrapping_add_usize(s.kind, 1);
-    if s.kind == VERSION {
-        t.version = value;
-    }
     let mut u = taken(t, s.kind, value);
     if begins_line(u.kind) {
         u.line = wrapping_add_usize(u.line, 1);

@@ -13,14 +13,14 @@ use Rattle.plan.specs.declared.Header.{Header}
 use Rattle.plan.specs.declared.Component.{Component}
 use Rattle.plan.specs.declared.Plan.{Plan}
 use Rattle.plan.specs.Ranges.{header-fits}
-use Rattle.plan.specs.Rule7.{component-fits}
+use Rattle.plan.specs.Versions.{known-version}
 use Rattle.plan.proofs.Truths.{both, each}
 use Rattle.plan.proofs.Facts.{header-kept}
 use Rattle.fields.specs.declared.Name.{Name}
 use Rattle.fields.specs.Fields.{Read, refused, got}
 use Rattle.fields.proofs.Giving.{Gives}
 use Rattle.sections.specs.Sections.{section}
-use Rattle.sections.proofs.Fitting.{section-gives}
+use Rattle.sections.proofs.Fitting.{Fits, section-gives}
 use Rattle.frame.specs.declared.Trailer.{Trailer}
 use Rattle.frame.specs.Frame.{trailer, trailer-tests, trailer-fits, header, zeros-fit}
 use Rattle.block.specs.declared.Reading.{Reading}
@@ -58,66 +58,71 @@ module _ (C : Plan → Type 0) where
   either false p q = q refl
 
   -- a section that was read was written so
-  through : (h : Header) → header-fits h ≡ true → (k a : ℕ) (s : List ℕ) → areBytes s ≡ true → (next : Component → Reading)
-      → ((c : Component) → s ≡ section-bytes (h .d) c → Where C (next c)) → Where C (met a s (section h k s) next)
+  through : (version : ℕ) (h : Header) → header-fits h ≡ true → (k a : ℕ) (s : List ℕ) → areBytes s ≡ true → (next : Component → Reading)
+      → ((c : Component) → s ≡ section-bytes version (h .d) c → Where C (next c)) → Where C (met a s (section version h k s) next)
   unfolding met
-  through h e k a s small next f = go (section h k s) (section-gives h k s) (section-mirrors h (header-kept h e) k .forth s small)
+  through version h e k a s small next f = go (section version h k s) (section-gives h k version s) (section-mirrors h (header-kept h e) k version .forth s small)
     where
-      go : (r : Read Component) → Gives (λ c. component-fits h c ≡ true) r → Spelled End (section-bytes (h .d)) (Placed h (header-kept h e) k) s r → Where C (met a s r next)
+      go : (r : Read Component) → Gives (Fits h k version) r → Spelled End (section-bytes version (h .d)) (Placed h (header-kept h e) k) s r → Where C (met a s r next)
       go (refused n name rest) some t = refuses n _ name some
-      go (got c rest) some t = f c (t .1 .0 ∙ ap (λ (l : List ℕ). section-bytes (h .d) c ++ l) (t .1 .1 .1) ∙ no-more (section-bytes (h .d) c))
+      go (got c rest) some t = f c (t .1 .0 ∙ ap (λ (l : List ℕ). section-bytes version (h .d) c ++ l) (t .1 .1 .1) ∙ no-more (section-bytes version (h .d) c))
 
 module _ (bytes : List ℕ) (small : areBytes bytes ≡ true) where
   -- from the header on
   abbrev pub From : Plan → Type 0
-  From p = let a = trailer (tail bytes) .a in (a + 12 ≤ length bytes) × (block p 1 ≡ drop (length bytes - (a + 12)) bytes)
+  From p =
+      let x = trailer (tail bytes) in
+      (known-version (x .version) ≡ true) × ((x .a + 12 ≤ length bytes) × (block p (x .version) ≡ drop (length bytes - (x .a + 12)) bytes))
 
   module _ (x : Trailer) (is : trailer (tail bytes) ≡ x) (long : 12 ≤ length bytes) (points : trailer-fits x ≡ true) (inside : x .a ≤ length bytes - 12) where
     abbrev t : ℕ
     t = length bytes - 12
 
-    told : (x .version ≡ 1) × ((x .last ≡ 0) × ((x .a ≡ x .d0 + 24) × ((x .d1 < x .d0) × (x .d2 < x .d1))))
+    told : (known-version (x .version) ≡ true) × ((x .last ≡ 0) × ((x .a ≡ x .d0 + 24) × ((x .d1 < x .d0) × (x .d2 < x .d1))))
     unfolding trailer-fits
     told =
         let q = each (trailer-tests x) points in
-        (eqb-true _ _ (q .0), (eqb-true _ _ (q .1 .0), (eqb-true _ _ (q .1 .1 .0), (ltb-true _ _ (q .1 .1 .1 .0), ltb-true _ _ (q .1 .1 .1 .1 .0)))))
+        (q .0, (eqb-true _ _ (q .1 .0), (eqb-true _ _ (q .1 .1 .0), (ltb-true _ _ (q .1 .1 .1 .0), ltb-true _ _ (q .1 .1 .1 .1 .0)))))
 
     -- the trailer that stands there is the one that the sections' lengths make
     behind : (y cb cr : List ℕ) → part bytes (t - x .d0) (t - x .d1) ≡ y → part bytes (t - x .d1) (t - x .d2) ≡ cb → part bytes (t - x .d2) t ≡ cr
-        → let d2 = length cr in let d1 = length cb + d2 in let d0 = length y + d1 in trailer-bytes (24 + d0) d0 d1 d2 1 ≡ tail bytes
+        → let d2 = length cr in let d1 = length cb + d2 in let d0 = length y + d1 in trailer-bytes (24 + d0) d0 d1 d2 (x .version) ≡ tail bytes
     behind y cb cr e1 e2 e3 =
         let l2 : length cr ≡ x .d2 = sym (ap length e3) ∙ part-length bytes (t - x .d2) t (omega arith) ∙ omega (arith, told .1 .1) in
         let l1 : length cb + x .d2 ≡ x .d1 = ap (λ (n : ℕ). n + x .d2) (sym (ap length e2) ∙ part-length bytes (t - x .d1) (t - x .d2) (omega arith)) ∙ omega (arith, told .1 .1) in
         let l0 : length y + x .d1 ≡ x .d0 = ap (λ (n : ℕ). n + x .d1) (sym (ap length e1) ∙ part-length bytes (t - x .d0) (t - x .d1) (omega arith)) ∙ omega (arith, told .1 .1) in
         let a : 24 + x .d0 ≡ x .a = omega (arith, told .1 .1 .0) in
         let f = trailer-forth (tail bytes) (part-small bytes (length bytes - 12) (length bytes) small) (part-length bytes (length bytes - 12) (length bytes) (omega arith) ∙ omega arith) (ap (λ (y : Trailer). y .last) is ∙ told .1 .0) in
-        rw (l2, l1, l0, a, ← told .0) (rw is at f)
+        rw (l2, l1, l0, a) (rw is at f)
 
-    put-together : (h : Header) (y cb cr : Component) → part bytes (t - x .a) (t - x .d0) ≡ header-bytes h → part bytes (t - x .d0) (t - x .d1) ≡ section-bytes (h .d) y
-        → part bytes (t - x .d1) (t - x .d2) ≡ section-bytes (h .d) cb → part bytes (t - x .d2) t ≡ section-bytes (h .d) cr → From (record { header = h; y = y; cb = cb; cr = cr })
+    put-together : (h : Header) (y cb cr : Component) → part bytes (t - x .a) (t - x .d0) ≡ header-bytes h → part bytes (t - x .d0) (t - x .d1) ≡ section-bytes (x .version) (h .d) y
+        → part bytes (t - x .d1) (t - x .d2) ≡ section-bytes (x .version) (h .d) cb → part bytes (t - x .d2) t ≡ section-bytes (x .version) (h .d) cr → From (record { header = h; y = y; cb = cb; cr = cr })
     unfolding block
     put-together h y cb cr e0 e1 e2 e3 =
         let n : length bytes - (x .a + 12) ≡ t - x .a = omega arith in
         let rest : length (drop t bytes) ≤ length bytes - t = rw (length-drop t bytes) (omega arith) in
         let end : tail bytes ≡ drop t bytes = take-all (length bytes - t) (drop t bytes) rest in
-        let last = behind (section-bytes (h .d) y) (section-bytes (h .d) cb) (section-bytes (h .d) cr) e1 e2 e3 ∙ end in
+        let last = behind (section-bytes (x .version) (h .d) y) (section-bytes (x .version) (h .d) cb) (section-bytes (x .version) (h .d) cr) e1 e2 e3 ∙ end in
         rw (is, n) (
-          omega arith,
-          ap₂ _++_ (sym e0)
-              (ap₂ _++_ (sym e1)
-              (ap₂ _++_ (sym e2)
-              (ap₂ _++_ (sym e3) last ∙ part-on bytes (t - x .d2) t (omega arith))
-              ∙ part-on bytes (t - x .d1) (t - x .d2) (omega (arith, told .1 .1)))
-              ∙ part-on bytes (t - x .d0) (t - x .d1) (omega (arith, told .1 .1)))
-              ∙ part-on bytes (t - x .a) (t - x .d0) (omega (arith, told .1 .1)),
+          told .0,
+          (
+            omega arith,
+            ap₂ _++_ (sym e0)
+                (ap₂ _++_ (sym e1)
+                (ap₂ _++_ (sym e2)
+                (ap₂ _++_ (sym e3) last ∙ part-on bytes (t - x .d2) t (omega arith))
+                ∙ part-on bytes (t - x .d1) (t - x .d2) (omega (arith, told .1 .1)))
+                ∙ part-on bytes (t - x .d0) (t - x .d1) (omega (arith, told .1 .1)))
+                ∙ part-on bytes (t - x .a) (t - x .d0) (omega (arith, told .1 .1)),
+          ),
         )
 
     sections-forth : (h : Header) → header-fits h ≡ true → part bytes (t - x .a) (t - x .d0) ≡ header-bytes h → Where From (sections bytes t x h)
     unfolding sections
     sections-forth h e e0 =
-        through From h e 0 (t - x .d0) (part bytes (t - x .d0) (t - x .d1)) (part-small bytes (t - x .d0) (t - x .d1) small) _
-        (λ y e1. through From h e 1 (t - x .d1) (part bytes (t - x .d1) (t - x .d2)) (part-small bytes (t - x .d1) (t - x .d2) small) _
-        (λ cb e2. through From h e 2 (t - x .d2) (part bytes (t - x .d2) t) (part-small bytes (t - x .d2) t small) _
+        through From (x .version) h e 0 (t - x .d0) (part bytes (t - x .d0) (t - x .d1)) (part-small bytes (t - x .d0) (t - x .d1) small) _
+        (λ y e1. through From (x .version) h e 1 (t - x .d1) (part bytes (t - x .d1) (t - x .d2)) (part-small bytes (t - x .d1) (t - x .d2) small) _
+        (λ cb e2. through From (x .version) h e 2 (t - x .d2) (part bytes (t - x .d2) t) (part-small bytes (t - x .d2) t small) _
         (λ cr e3. record { plan = λ _. put-together h y cb cr e0 e1 e2 e3 })))
 
     body-forth : Where From (body bytes t x)

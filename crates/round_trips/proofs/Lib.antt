@@ -1,6 +1,7 @@
 pub mod Digits
 pub mod Mirrors
 pub mod Places
+pub mod Carrying
 pub mod Parts
 pub mod Sections
 pub mod Frames

@@ -1,6 +1,6 @@
 -- The places of an array: those in use as they are read and written, and the others, which hold what stands for none. Assumes nothing.
 use mathlib.Core.Path.{_≡_, refl, sym, ap, ap₂, _∙_}
-use mathlib.Core.List.{List, [], _∷_, _++_}
+use mathlib.Core.List.{List, [], _∷_, _++_, append-nil}
 use Prim.Native.Nat.{ℕ, zero, suc, _≤_, _<_, zero-le, suc-le-suc}
 use native.Mathlib.Nat.{le-of-suc-le-suc, not-suc-le-zero, suc-inj}
 use native.Mathlib.Omega.{arith}
@@ -18,13 +18,16 @@ module _ {A : Type 0} where
   length-padded (suc m) z (x ∷ l) = ap suc (length-padded m z l)
 
   -- what was filled up, cut again
-  pub cut : (z : A) (m : ℕ) (l : List A) (k : ℕ) → length l ≡ k → k ≤ m → take k (padded m z l) ≡ l
+  pub cut-more : (z : A) (m : ℕ) (l more : List A) (k : ℕ) → length l ≡ k → k ≤ m → take k (padded m z (l ++ more)) ≡ l
   unfolding padded
-  cut z m [] zero e h = refl
-  cut z m [] (suc k) e h = absurd (omega arith)
-  cut z m (x ∷ l) zero e h = absurd (omega arith)
-  cut z zero (x ∷ l) (suc k) e h = absurd (not-suc-le-zero h)
-  cut z (suc m) (x ∷ l) (suc k) e h = ap (λ (r : List A). x ∷ r) (cut z m l k (suc-inj e) (le-of-suc-le-suc h))
+  cut-more z m [] more zero e h = refl
+  cut-more z m [] more (suc k) e h = absurd (omega arith)
+  cut-more z m (x ∷ l) more zero e h = absurd (omega arith)
+  cut-more z zero (x ∷ l) more (suc k) e h = absurd (not-suc-le-zero h)
+  cut-more z (suc m) (x ∷ l) more (suc k) e h = ap (λ (r : List A). x ∷ r) (cut-more z m l more k (suc-inj e) (le-of-suc-le-suc h))
+
+  pub cut : (z : A) (m : ℕ) (l : List A) (k : ℕ) → length l ≡ k → k ≤ m → take k (padded m z l) ≡ l
+  cut z m l k e h = ap (λ (r : List A). take k (padded m z r)) (sym (append-nil l)) ∙ cut-more z m l [] k e h
 
   nothing-else : (z d : A) (m : ℕ) (l : List A) → length l ≡ m → ((i : ℕ) → i < m → getD l i d ≡ z) → padded m z [] ≡ l
   unfolding padded

@@ -3,6 +3,7 @@ use mathlib.Core.Path.{_≡_, refl, sym, ap, ap₂}
 use mathlib.Core.Bool.{true}
 use mathlib.Core.List.{List, [], _∷_, _++_}
 use Prim.Native.Nat.{ℕ, _+_, _*_, _^_, _≤_, _<_}
+use native.Mathlib.Nat.{lt-of-lt-of-le}
 use native.Mathlib.Omega.{arith}
 use lib.Dec.{leb, ltb, eqb}
 use lib.IntN.{ℤ, pos}
@@ -17,9 +18,11 @@ use Rattle.plan.specs.declared.Nlq.{Nlq}
 use Rattle.plan.specs.declared.Component.{Component}
 use Rattle.plan.specs.Ranges.{count-fits, pivot-fits, order-fits, offset-fits, fraction-fits, coefficient-fits, unsigned-fits}
 use Rattle.plan.specs.Rule7.{pivot-places, piece-places, row-places, pivots-used, pieces-used, coefficients-used, no-piece, zero-piece, row-fits, piece-fits, piece-empty, pivots-fit, pieces-fit, nlq-tests, nlq-fits, component-fits}
+use Rattle.plan.specs.Versions.{pieces-carried, pieces-read, can-carry}
 use Rattle.plan.specs.inner.Facts.{HeaderFacts, Arrays}
 use Rattle.plan.proofs.Truths.{both, each, every-at}
 use Rattle.plan.proofs.Coefficients.{zero-abs}
+use Rattle.plan.proofs.Carrying.{carried-le}
 use Rattle.fields.specs.declared.Width.the-variants.{One, Two, Four}
 use Rattle.fields.specs.Fields.{padded}
 use Rattle.fields.proofs.Giving.{Each}
@@ -30,6 +33,7 @@ use Rattle.sections.specs.Sections.{coefficient, unsigned, idc, piece, pivot, n
 use Rattle.section_writer.specs.Section.{piece-bytes, nlq-bytes, section-bytes}
 use Rattle.round_trips.proofs.Mirrors.{Any, End, Mirrors, field-mirrors, then-mirrors, last-mirrors, done, over, mirrors-as, each-of, repeated-mirrors}
 use Rattle.round_trips.proofs.Places.{cut, filled, each-taken, in-turns, length-padded}
+use Rattle.round_trips.proofs.Carrying.{cut-read, read-all}
 use Rattle.round_trips.proofs.Parts.{parted, coefficient-parts, unsigned-parts, unsigned-parted}
 
 module _ (h : Header) (facts : HeaderFacts h) (k : ℕ) where
@@ -175,11 +179,11 @@ module _ (h : Header) (facts : HeaderFacts h) (k : ℕ) where
         filled 0 0 pivot-places (pivots-used (c .n)) (c .preds) (a .preds) (omega (arith, few))
         (λ i p b. eqb-true _ 0 (rw (le-ltb i (pivots-used (c .n)) p) at (every-at _ pivot-places (rules .1 .0) i b)))
 
-    pieces-each : Each (λ q. (piece-fits h q ≡ true) × Whole q) (take (pieces-used (c .n)) (c .pieces))
+    pieces-each : (k : ℕ) → k ≤ pieces-used (c .n) → Each (λ q. (piece-fits h q ≡ true) × Whole q) (take k (c .pieces))
     unfolding pieces-fit
-    pieces-each =
-        each-taken (λ q. (piece-fits h q ≡ true) × Whole q) no-piece (pieces-used (c .n)) (c .pieces) (rw (a .pieces) (omega (arith, few)))
-        (λ i b. let t : i < piece-places = omega (arith, few) in (rw (lt-ltb i (pieces-used (c .n)) b) at (every-at _ piece-places (rules .1 .1 .0) i t), a .row i t))
+    pieces-each k l =
+        each-taken (λ q. (piece-fits h q ≡ true) × Whole q) no-piece k (c .pieces) (rw (a .pieces) (omega (arith, few)))
+        (λ i b. let t : i < piece-places = omega (arith, few) in (rw (lt-ltb i (pieces-used (c .n)) (lt-of-lt-of-le b l)) at (every-at _ piece-places (rules .1 .1 .0) i t), a .row i t))
 
     pieces-filled : padded piece-places zero-piece (take (pieces-used (c .n)) (c .pieces)) ≡ c .pieces
     unfolding pieces-fit
@@ -190,52 +194,62 @@ module _ (h : Header) (facts : HeaderFacts h) (k : ℕ) where
   abbrev pub Placed : Component → Type 0
   Placed c = (length (c .preds) ≡ pivot-places) × (length (c .pieces) ≡ piece-places)
 
-  pub section-mirrors : Mirrors End (section h k) (section-bytes (h .d)) (λ c. (component-fits h c ≡ true) × Arrays c) Placed
+  -- what is written of a component: it passes rule 7, its arrays have their lengths, and the version carries all of it
+  pub record Writable (version : ℕ) (c : Component) : Type 0 where
+    pub fits : component-fits h c ≡ true
+    pub arrays : Arrays c
+    pub carries : can-carry version c ≡ true
+
+  pub section-mirrors : (version : ℕ) → Mirrors End (section version h k) (section-bytes version (h .d)) (Writable version) Placed
   unfolding section section-bytes
-  section-mirrors =
+  section-mirrors version =
       then-mirrors (field-mirrors (asked 1 k 0 0 One) count-fits (λ v. 5) one-byte) (λ c. c .n) _ _
       (λ n t.
       let few : n ≤ 15 = leb-true n 15 t in
       mirrors-as
       (then-mirrors (repeated-mirrors (pivot h k) (bytes-of 2) _ _ (λ i. field-mirrors (asked 2 k i 0 Two) (pivot-fits h) (λ v. 5) (λ v. sample-small (h .bl) v (facts .base-depth))) 0 (pivots-used n)) (λ c. take (pivots-used n) (c .preds)) _ _
       (λ l s.
-      then-mirrors (repeated-mirrors (piece h k) (piece-bytes (h .d)) _ _ piece-mirrors 0 (pieces-used n)) (λ c. take (pieces-used n) (c .pieces)) _ _
+      then-mirrors (repeated-mirrors (piece h k) (piece-bytes (h .d)) _ _ piece-mirrors 0 (pieces-carried version n)) (λ c. take (pieces-carried version n) (c .pieces)) _ _
       (λ m u.
       last-mirrors nlq-mirrors (over (asked 14 k 0 0 One .name) 3)
-      (λ q. record { n = n; preds = padded pivot-places 0 l; pieces = padded piece-places zero-piece m; nlq = q }) (λ c. c .nlq) _ _
-      (λ c x. (rules c (x .1 .1 .1 .1) (x .1 .1 .1 .0) .1 .1 .1, made c n l m (x .1 .1 .0) (x .1 .0) (x .0) (x .1 .1 .1 .1) (x .1 .1 .1 .0)))
+      (λ q. record { n = n; preds = padded pivot-places 0 l; pieces = padded piece-places zero-piece (pieces-read version n m); nlq = q }) (λ c. c .nlq) _ _
+      (λ c x. let w = x .1 .1 .1 in (rules c (w .arrays) (w .fits) .1 .1 .1, made c n l m few (x .1 .1 .0) (x .1 .0) (x .0) w))
       (λ q _. (
         refl,
         (
-          cut zero-piece piece-places m (pieces-used n) (u .0) (omega arith),
+          cut-read version n few m (u .0),
           (
             cut 0 pivot-places l (pivots-used n) (s .0) (omega arith),
-            (refl, (length-padded pivot-places 0 l, length-padded piece-places zero-piece m)),
+            (refl, (length-padded pivot-places 0 l, length-padded piece-places zero-piece (pieces-read version n m))),
           ),
         ),
       )))
-      (λ c x. let p = of-pieces c n (x .1 .0) (x .1 .1 .1) (x .1 .1 .0) in (p, (p .0, whole (take (pieces-used n) (c .pieces)) (p .1)))))
-      (λ c x. let p = of-pivots c n (x .0) (x .1 .1) (x .1 .0) in (p, p)))
-      (λ c x. turned c n (x .0) few (x .1 .1 .preds, x .1 .1 .pieces))
+      (λ c x. let p = of-pieces c n (x .1 .0) (x .1 .1) in (p, (p .0, whole (take (pieces-carried version n) (c .pieces)) (p .1)))))
+      (λ c x. let p = of-pivots c n (x .0) (x .1) in (p, p)))
+      (λ c x. turned c n (x .0) few (x .1 .arrays .preds, x .1 .arrays .pieces))
       (λ c x. turned c n (x .0) few (x .1)))
-      (λ c x. let t = rules c (x .1) (x .0) .0 in (t, t))
+      (λ c x. let t = rules c (x .arrays) (x .fits) .0 in (t, t))
     where
-      of-pivots : (c : Component) (n : ℕ) → c .n ≡ n → Arrays c → component-fits h c ≡ true → (length (take (pivots-used n) (c .preds)) ≡ pivots-used n) × Each (λ v. pivot-fits h v ≡ true) (take (pivots-used n) (c .preds))
-      of-pivots c n f a e = rw (← f) (length-take-le (pivots-used (c .n)) (c .preds) (rw (a .preds) (omega (arith, few c a e))), pivots-each c a e)
+      of-pivots : (c : Component) (n : ℕ) → c .n ≡ n → Writable version c → (length (take (pivots-used n) (c .preds)) ≡ pivots-used n) × Each (λ v. pivot-fits h v ≡ true) (take (pivots-used n) (c .preds))
+      of-pivots c n f w = rw (← f) (length-take-le (pivots-used (c .n)) (c .preds) (rw (w .arrays .preds) (omega (arith, few c (w .arrays) (w .fits)))), pivots-each c (w .arrays) (w .fits))
 
-      of-pieces : (c : Component) (n : ℕ) → c .n ≡ n → Arrays c → component-fits h c ≡ true → (length (take (pieces-used n) (c .pieces)) ≡ pieces-used n) × Each (λ q. (piece-fits h q ≡ true) × Whole q) (take (pieces-used n) (c .pieces))
-      of-pieces c n f a e = rw (← f) (length-take-le (pieces-used (c .n)) (c .pieces) (rw (a .pieces) (omega (arith, few c a e))), pieces-each c a e)
+      of-pieces : (c : Component) (n : ℕ) → c .n ≡ n → Writable version c → (length (take (pieces-carried version n) (c .pieces)) ≡ pieces-carried version n) × Each (λ q. (piece-fits h q ≡ true) × Whole q) (take (pieces-carried version n) (c .pieces))
+      of-pieces c n f w =
+          let l = carried-le version (c .n) in
+          rw (← f) (length-take-le (pieces-carried version (c .n)) (c .pieces) (rw (w .arrays .pieces) (omega (arith, l, few c (w .arrays) (w .fits)))), pieces-each c (w .arrays) (w .fits) (pieces-carried version (c .n)) l)
 
       whole : (l : List Piece) → Each (λ q. (piece-fits h q ≡ true) × Whole q) l → Each Whole l
       whole [] t = tt
       whole (q ∷ l) t = (t .0 .1, whole l (t .1))
 
       turned : (c : Component) (n : ℕ) → c .n ≡ n → n ≤ 15 → Placed c
-          → each-of (bytes-of 2) (take (pivots-used n) (c .preds)) ++ (each-of (piece-bytes (h .d)) (take (pieces-used n) (c .pieces)) ++ nlq-bytes (h .d) (c .nlq))
-          ≡ in-turn (pivots-used (c .n)) (λ i. bytes-of 2 (getD (c .preds) i 0)) ++ (in-turn (pieces-used (c .n)) (λ p. piece-bytes (h .d) (getD (c .pieces) p no-piece)) ++ nlq-bytes (h .d) (c .nlq))
+          → each-of (bytes-of 2) (take (pivots-used n) (c .preds)) ++ (each-of (piece-bytes (h .d)) (take (pieces-carried version n) (c .pieces)) ++ nlq-bytes (h .d) (c .nlq))
+          ≡ in-turn (pivots-used (c .n)) (λ i. bytes-of 2 (getD (c .preds) i 0)) ++ (in-turn (pieces-carried version (c .n)) (λ p. piece-bytes (h .d) (getD (c .pieces) p no-piece)) ++ nlq-bytes (h .d) (c .nlq))
       turned c n e few long =
-          rw (e, in-turns (bytes-of 2) 0 (pivots-used n) (c .preds) (rw (long .0) (omega arith)), in-turns (piece-bytes (h .d)) no-piece (pieces-used n) (c .pieces) (rw (long .1) (omega arith)))
+          rw (e, in-turns (bytes-of 2) 0 (pivots-used n) (c .preds) (rw (long .0) (omega arith)), in-turns (piece-bytes (h .d)) no-piece (pieces-carried version n) (c .pieces) (rw (long .1) (omega (arith, carried-le version n))))
 
-      made : (c : Component) (n : ℕ) (l : List ℕ) (m : List Piece) → c .n ≡ n → take (pivots-used n) (c .preds) ≡ l → take (pieces-used n) (c .pieces) ≡ m → Arrays c → component-fits h c ≡ true
-          → record { n = n; preds = padded pivot-places 0 l; pieces = padded piece-places zero-piece m; nlq = c .nlq } ≡ c
-      made c n l m f g i a e = rw (← g, ← i, ← f) (ap₂ (λ (v : List ℕ) (q : List Piece). record { n = c .n; preds = v; pieces = q; nlq = c .nlq }) (pivots-filled c a e) (pieces-filled c a e))
+      made : (c : Component) (n : ℕ) (l : List ℕ) (m : List Piece) → n ≤ 15 → c .n ≡ n → take (pivots-used n) (c .preds) ≡ l → take (pieces-carried version n) (c .pieces) ≡ m → Writable version c
+          → record { n = n; preds = padded pivot-places 0 l; pieces = padded piece-places zero-piece (pieces-read version n m); nlq = c .nlq } ≡ c
+      made c n l m few f g i w =
+          rw (← g, ← i, read-all version n few c f (w .arrays) (w .carries), ← f)
+          (ap₂ (λ (v : List ℕ) (q : List Piece). record { n = c .n; preds = v; pieces = q; nlq = c .nlq }) (pivots-filled c (w .arrays) (w .fits)) (pieces-filled c (w .arrays) (w .fits)))

@@ -1,4 +1,4 @@
--- Reading and writing undo each other: two theorems over calls of `read` and of `write` that have ended as their promises say.
+-- Reading and writing undo each other: theorems over calls of `read` and of `write` that have ended as their promises say.
 use mathlib.Core.Bool.{true}
 use mathlib.Core.Path.{_≡_}
 use mathlib.Core.List.{List, [], _∷_, _++_}
@@ -12,7 +12,7 @@ use Rattle.frame.specs.Frame.{trailer}
 use Rattle.block.specs.declared.Reading.{Reading}
 use Rattle.block.specs.Reading.{tail}
 use Rattle.block.proofs.read.Reads as reading
-use Rattle.writer.specs.Writing.{says}
+use Rattle.writer.specs.Writing.{block-length, says}
 use Rattle.writer.proofs.write.Reads as writing
 use Rattle.calls.specs.Calls.{Ended}
 
@@ -56,11 +56,19 @@ pub record WrittenIsRead : Type 0 where
 abbrev pub from-header : List ℕ → ℕ
 from-header bytes = trailer (tail bytes) .a + 12
 
--- of bytes that were accepted the plan, written as version 1 to a slice that is long enough, puts their last A + 12 into it, and what stood
--- after them stays
+-- of bytes that were accepted the plan, written as the version that they are to a slice that is long enough, puts their last A + 12 into it,
+-- and what stood after them stays
 pub record ReadIsWritten : Type 0 where
   pub puts-back : (r : ReadCall) (w : WriteCall) → areBytes (bytes-read r) ≡ true → read-answer r .number ≡ 0
-      → plan-written w ≡ read-answer r .plan → version-written w ≡ 1
+      → plan-written w ≡ read-answer r .plan → version-written w ≡ trailer (tail (bytes-read r)) .version
       → let n = from-header (bytes-read r) in
       n ≤ length (slice-before w)
       → (n ≤ length (bytes-read r)) × ((write-said w ≡ granted (n ∷ [])) × (slice-after w ≡ drop (length (bytes-read r) - n) (bytes-read r) ++ drop n (slice-before w)))
+
+-- of bytes that were accepted, of whichever version, the plan can be written as version 2 to a slice that is long enough, and what was
+-- written reads back to the same plan
+pub record RaisedIsRead : Type 0 where
+  pub raises : (r : ReadCall) (w : WriteCall) (again : ReadCall) → read-answer r .number ≡ 0 → plan-written w ≡ read-answer r .plan → version-written w ≡ 2
+      → let n = block-length (plan-written w) 2 in
+      n ≤ length (slice-before w) → bytes-read again ≡ take n (slice-after w)
+      → (write-said w ≡ granted (n ∷ [])) × ((read-answer again .number ≡ 0) × (read-answer again .plan ≡ read-answer r .plan))

@@ -81,7 +81,7 @@ fn pieces_fit(h: Header, c: Component) -> bool
     requires { ⌜ count-fits (c .n) ≡ true ⌝ }
     ensures { λ r. ⌜ r ≡ pieces-fit h c ⌝ }
 {
-    let used = (c.n as usize) + 1;
+    let used = (c.n as usize) + 2;
     let pieces = c.pieces;
     let mut fit = true;
     let mut p: usize = 0;

@@ -44,7 +44,7 @@ fn say_trailer(bytes: &[u8]) {
         say_number(trailer_number(bytes, k));
         k += 1;
     }
-    say(b", allowed A = D0 + 24, D0 > D1 > D2 > 0, version 1, zero 0");
+    say(b", allowed A = D0 + 24, D0 > D1 > D2 > 0, version 1 or 2, zero 0");
 }
 
 // Rule 3, in section k.

@@ -50,36 +50,36 @@ module _ (s : List ℕ) (at d : ℕ) (q : Piece) (r : at + length (piece-bytes d
       on first (on (rw second at (one-inked (q .order) (omega (arith, piece-room .0, same-length first)) e2)) p)
 
 -- ---- a section
-module _ (s : List ℕ) (at d : ℕ) (c : Component) where
-  pub deep-section : 32 < d → s ≡ put-section s at d c
+module _ (s : List ℕ) (at version d : ℕ) (c : Component) where
+  pub deep-section : 32 < d → s ≡ put-section s at version d c
   deep-section h = rw (lt-leb d 32 h)
 
-  pub long-section : 15 < c .n → s ≡ put-section s at d c
+  pub long-section : 15 < c .n → s ≡ put-section s at version d c
   long-section h = go (leb d 32)
     where
-      go : (t : Bool) → s ≡ cond (t && leb (c .n) 15) (put-at s at (section-bytes d c)) s
+      go : (t : Bool) → s ≡ cond (t && leb (c .n) 15) (put-at s at (section-bytes version d c)) s
       go true = rw (lt-leb (c .n) 15 h)
       go false = refl
 
   module _ (h : d ≤ 32) (few : c .n ≤ 15) where
-    pub no-room : length s < at + length (section-bytes d c) → s ≡ put-section s at d c
+    pub no-room : length s < at + length (section-bytes version d c) → s ≡ put-section s at version d c
     no-room r = rw (le-leb d 32 h, le-leb (c .n) 15 few) (put-none s at refl r)
 
-    module _ (r : at + length (section-bytes d c) ≤ length s) where
+    module _ (r : at + length (section-bytes version d c) ≤ length s) where
       numbered : {s1 : List ℕ} → s1 ≡ put-at s at (bytes-of 1 (c .n)) → Inked s at (bytes-of 1 (c .n)) s1 (at + 1)
-      numbered e = one-inked (c .n) (omega (arith, r, section-parts d c)) e
+      numbered e = one-inked (c .n) (omega (arith, r, section-parts d version c)) e
 
       pub pivots-room : {s1 : List ℕ} → s1 ≡ put-at s at (bytes-of 1 (c .n)) → at + 1 + length (pivots-of d c) ≤ length s1
-      pivots-room e = omega (arith, r, section-parts d c, pivots-size d c, same-length (numbered e))
+      pivots-room e = omega (arith, r, section-parts d version c, pivots-size d c, same-length (numbered e))
 
       module _ {s1 s2 : List ℕ} {first : ℕ} (e : s1 ≡ put-at s at (bytes-of 1 (c .n))) (p : Inked s1 (at + 1) (pivots-of d c) s2 first) where
-        pub pieces-room : first + length (pieces-of d c) ≤ length s2
-        pieces-room = omega (arith, r, section-parts d c, pivots-size d c, p .place, same-length p, same-length (numbered e))
+        pub pieces-room : first + length (pieces-of d version c) ≤ length s2
+        pieces-room = omega (arith, r, section-parts d version c, pivots-size d c, p .place, same-length p, same-length (numbered e))
 
-        module _ {s3 : List ℕ} {second : ℕ} (q : Inked s2 first (pieces-of d c) s3 second) where
+        module _ {s3 : List ℕ} {second : ℕ} (q : Inked s2 first (pieces-of d version c) s3 second) where
           pub nlq-room : second + 17 ≤ length s3
-          nlq-room = omega (arith, r, section-parts d c, pivots-size d c, p .place, q .place, same-length p, same-length (numbered e), same-length q)
+          nlq-room = omega (arith, r, section-parts d version c, pivots-size d c, p .place, q .place, same-length p, same-length (numbered e), same-length q)
 
-          pub made-section : {s4 : List ℕ} → Inked s3 second (nlq-bytes d (c .nlq)) s4 (second + 17) → s4 ≡ put-section s at d c
+          pub made-section : {s4 : List ℕ} → Inked s3 second (nlq-bytes d (c .nlq)) s4 (second + 17) → s4 ≡ put-section s at version d c
           unfolding section-bytes
           made-section t = on (numbered e) (on p (on q t)) .is ∙ rw (le-leb d 32 h, le-leb (c .n) 15 few) (put-all s at refl r)

@@ -1,7 +1,9 @@
 -- How long a section is, whatever the denominator. Assumes nothing.
 use mathlib.Core.Path.{_≡_, refl, sym, ap, _∙_}
+use mathlib.Core.Bool.{Bool, true, false}
 use mathlib.Core.List.{List, _++_}
 use Prim.Native.Nat.{ℕ, _+_, _*_, _≤_, _<_}
+use native.Mathlib.Nat.{le-antisymm}
 use native.Mathlib.Omega.{arith}
 use lib.IntN.{pos}
 use lib.ListN.{length, getD, length-append}
@@ -9,11 +11,12 @@ use borrow.Author.Tests.{lt-leb, le-leb}
 use Rattle.plan.specs.declared.Piece.{Piece}
 use Rattle.plan.specs.declared.Nlq.{Nlq}
 use Rattle.plan.specs.declared.Component.{Component}
-use Rattle.plan.specs.Rule7.{pivots-used, pieces-used, coefficients-used, no-piece}
+use Rattle.plan.specs.Rule7.{pivots-used, coefficients-used, no-piece}
+use Rattle.plan.specs.Versions.{pieces-carried, can-carry}
 use Rattle.pen.specs.Bytes.{bytes-of, number-bytes, in-turn}
-use Rattle.pen.proofs.Inking.{two-length, number-length, turn-length, turns-length, turns-alike}
+use Rattle.pen.proofs.Inking.{two-length, number-length, no-turn, turn-length, turns-length, turns-alike}
 use Rattle.section_writer.specs.Section.{piece-bytes, nlq-bytes, section-bytes}
-use Rattle.section_writer.specs.inner.Writing.{section-length}
+use Rattle.section_writer.specs.inner.Writing.{has-section, section-length}
 
 in-all : (n a b c : List ℕ) {x y z : ℕ} → length n ≡ 1 → length a ≡ x → length b ≡ y → length c ≡ z → length (n ++ (a ++ (b ++ c))) ≡ 1 + x + y + z
 in-all n a b c h e f g = omega (arith, length-append n (a ++ (b ++ c)), length-append a (b ++ c), length-append b c, h, e, f, g)
@@ -31,8 +34,8 @@ module _ (d : ℕ) where
   unfolding nlq-bytes number-bytes bytes-of
   nlq-size q = refl
 
-  abbrev pub pieces-of : Component → List ℕ
-  pieces-of c = in-turn (pieces-used (c .n)) (λ p. piece-bytes d (getD (c .pieces) p no-piece))
+  abbrev pub pieces-of : ℕ → Component → List ℕ
+  pieces-of version c = in-turn (pieces-carried version (c .n)) (λ p. piece-bytes d (getD (c .pieces) p no-piece))
 
   abbrev pub pivots-of : Component → List ℕ
   pivots-of c = in-turn (pivots-used (c .n)) (λ i. bytes-of 2 (getD (c .preds) i 0))
@@ -40,29 +43,61 @@ module _ (d : ℕ) where
   pub pivots-size : (c : Component) → length (pivots-of c) ≡ pivots-used (c .n) * 2
   pivots-size c = turns-length (λ i. bytes-of 2 (getD (c .preds) i 0)) 2 (λ i. two-length (getD (c .preds) i 0)) (pivots-used (c .n))
 
-  pub section-parts : (c : Component) → length (section-bytes d c) ≡ 1 + pivots-used (c .n) * 2 + length (pieces-of c) + 17
+  pub section-parts : (version : ℕ) (c : Component) → length (section-bytes version d c) ≡ 1 + pivots-used (c .n) * 2 + length (pieces-of version c) + 17
   unfolding section-bytes bytes-of
-  section-parts c = in-all (bytes-of 1 (c .n)) (pivots-of c) (pieces-of c) (nlq-bytes d (c .nlq)) refl (pivots-size c) refl (nlq-size (c .nlq))
+  section-parts version c = in-all (bytes-of 1 (c .n)) (pivots-of c) (pieces-of version c) (nlq-bytes d (c .nlq)) refl (pivots-size c) refl (nlq-size (c .nlq))
 
 -- the denominator does not matter
-pub any-denominator : (d : ℕ) (c : Component) → length (section-bytes d c) ≡ length (section-bytes 0 c)
-any-denominator d c =
-    let e = turns-alike (λ p. piece-bytes d (getD (c .pieces) p no-piece)) (λ p. piece-bytes 0 (getD (c .pieces) p no-piece)) (λ p. piece-size d (getD (c .pieces) p no-piece) ∙ sym (piece-size 0 (getD (c .pieces) p no-piece))) (pieces-used (c .n)) in
-    section-parts d c ∙ rw e (sym (section-parts 0 c))
+any-denominator : (version d : ℕ) (c : Component) → length (section-bytes version d c) ≡ length (section-bytes version 0 c)
+any-denominator version d c =
+    let e = turns-alike (λ p. piece-bytes d (getD (c .pieces) p no-piece)) (λ p. piece-bytes 0 (getD (c .pieces) p no-piece)) (λ p. piece-size d (getD (c .pieces) p no-piece) ∙ sym (piece-size 0 (getD (c .pieces) p no-piece))) (pieces-carried version (c .n)) in
+    section-parts d version c ∙ rw e (sym (section-parts 0 version c))
 
--- one piece more is counted, on top of what is not a piece's
-pub counted : (list : List Piece) (p base : ℕ) {size more : ℕ} → size ≡ base + length (in-turn p (λ p. piece-bytes 0 (getD list p no-piece))) → more ≡ 2 + coefficients-used (getD list p no-piece .order) * 5
-    → size + more ≡ base + length (in-turn (p + 1) (λ p. piece-bytes 0 (getD list p no-piece)))
-counted list p base {size} {more} e f =
-    omega (arith, e, f, piece-size 0 (getD list p no-piece), turn-length (λ p. piece-bytes 0 (getD list p no-piece)) p)
+-- a loop that adds up a section's length: p of its pieces are counted
+pub record Counted (c : Component) (carried size p : ℕ) : Type 0 where
+  pub few : p ≤ carried
+  pub is : size ≡ 1 + pivots-used (c .n) * 2 + 17 + length (in-turn p (λ p. piece-bytes 0 (getD (c .pieces) p no-piece)))
+  pub small : size ≤ 532 + p * 1287
+
+module _ (c : Component) {carried : ℕ} where
+  pub none-counted : {size : ℕ} → (size ≡ 1 + pivots-used (c .n) * 2 + 17) × (size ≤ 532) → Counted c carried size 0
+  none-counted f = record { few = omega arith; is = omega (arith, f .0, no-turn (λ p. piece-bytes 0 (getD (c .pieces) p no-piece))); small = omega (arith, f .1) }
+
+  pub one-counted : {size p more : ℕ} → Counted c carried size p → p < carried → (more ≡ 2 + coefficients-used (getD (c .pieces) p no-piece .order) * 5) × (more ≤ 1287) → Counted c carried (size + more) (p + 1)
+  one-counted {p = p} h b f =
+      record {
+        few = omega arith;
+        is = omega (arith, h .is, f .0, piece-size 0 (getD (c .pieces) p no-piece), turn-length (λ p. piece-bytes 0 (getD (c .pieces) p no-piece)) p);
+        small = omega (arith, h .small, f .1);
+      }
+
+  pub all-counted : {size p : ℕ} (version : ℕ) → Counted c carried size p → carried ≤ p → carried ≡ pieces-carried version (c .n) → size ≡ 1 + pivots-used (c .n) * 2 + 17 + length (pieces-of 0 version c)
+  all-counted {p = p} version h b e =
+      let all : p ≡ pieces-carried version (c .n) = le-antisymm (h .few) b ∙ e in
+      rw all at (h .is)
 
 -- what the code works out
-module _ (c : Component) where
-  pub too-many : 15 < c .n → 0 ≡ section-length c
+module _ (version : ℕ) (c : Component) where
+  pub too-many : 15 < c .n → 0 ≡ section-length version c
   too-many h = rw (lt-leb (c .n) 15 h)
 
-  pub worked-out : {m : ℕ} → c .n ≤ 15 → m ≡ 1 + (c .n + 2) * 2 + 17 + length (pieces-of 0 c) → m ≡ section-length c
-  worked-out h e = rw (le-leb (c .n) 15 h, e) (omega (arith, section-parts 0 c))
+  pub not-all : c .n ≤ 15 → can-carry version c ≡ false → 0 ≡ section-length version c
+  not-all h e = rw (le-leb (c .n) 15 h, e)
 
-  pub is-length : (d : ℕ) {m : ℕ} → c .n ≤ 15 → m ≡ section-length c → length (section-bytes d c) ≡ m
-  is-length d h e = any-denominator d c ∙ sym (rw (le-leb (c .n) 15 h) at e)
+  pub worked-out : {m : ℕ} → c .n ≤ 15 → can-carry version c ≡ true → m ≡ 1 + pivots-used (c .n) * 2 + 17 + length (pieces-of 0 version c) → m ≡ section-length version c
+  worked-out h k e = rw (le-leb (c .n) 15 h, k, e) (omega (arith, section-parts 0 version c))
+
+  -- the length whatever the denominator
+  pub in-all-bytes : (d : ℕ) {m : ℕ} → m ≡ 1 + pivots-used (c .n) * 2 + 17 + length (pieces-of 0 version c) → length (section-bytes version d c) ≡ m
+  in-all-bytes d e = any-denominator version d c ∙ omega (arith, e, section-parts 0 version c)
+
+  -- it says whether there is a section
+  pub some-written : {m : ℕ} → m ≡ section-length version c → (m ≡ 0 → ⊥) → has-section version c ≡ true
+  some-written {m} e f = go (has-section version c) refl
+    where
+      go : (t : Bool) → has-section version c ≡ t → t ≡ true
+      go true p = refl
+      go false p = absurd (f (rw p at e))
+
+  pub is-length : (d : ℕ) {m : ℕ} → has-section version c ≡ true → m ≡ section-length version c → length (section-bytes version d c) ≡ m
+  is-length d h e = any-denominator version d c ∙ sym (rw h at e)

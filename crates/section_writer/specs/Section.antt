@@ -6,7 +6,8 @@ use lib.ListN.{getD}
 use Rattle.plan.specs.declared.Piece.{Piece}
 use Rattle.plan.specs.declared.Nlq.{Nlq}
 use Rattle.plan.specs.declared.Component.{Component}
-use Rattle.plan.specs.Rule7.{pivots-used, pieces-used, coefficients-used, no-piece}
+use Rattle.plan.specs.Rule7.{pivots-used, coefficients-used, no-piece}
+use Rattle.plan.specs.Versions.{pieces-carried}
 use Rattle.pen.specs.Bytes.{bytes-of, number-bytes, in-turn}
 
 -- a piece: mapping_idc, poly_order_minus1, then poly_order_minus1 + 2 coefficients
@@ -24,10 +25,10 @@ nlq-bytes d q =
     ++ (number-bytes d (pos (q .slope))
     ++ number-bytes d (pos (q .threshold))))
 
--- a section: num_pivots_minus2, n + 2 pred_pivot_value, n + 1 pieces, and the residual's numbers
-unfoldable pub section-bytes : ℕ → Component → List ℕ
-section-bytes d c =
+-- a section of a version: num_pivots_minus2, n + 2 pred_pivot_value, the pieces that the version carries, and the residual's numbers
+unfoldable pub section-bytes : ℕ → ℕ → Component → List ℕ
+section-bytes version d c =
     bytes-of 1 (c .n)
     ++ (in-turn (pivots-used (c .n)) (λ i. bytes-of 2 (getD (c .preds) i 0))
-    ++ (in-turn (pieces-used (c .n)) (λ p. piece-bytes d (getD (c .pieces) p no-piece))
+    ++ (in-turn (pieces-carried version (c .n)) (λ p. piece-bytes d (getD (c .pieces) p no-piece))
     ++ nlq-bytes d (c .nlq)))

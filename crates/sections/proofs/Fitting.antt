@@ -6,19 +6,24 @@ use Prim.Native.Nat.{ℕ, _+_, _≤_}
 use native.Mathlib.Omega.{arith}
 use lib.Dec.{leb, eqb}
 use lib.IntN.{pos}
-use lib.ListN.{length}
+use lib.ListN.{length, getD}
+use borrow.Author.Tests.{leb-true}
 use Rattle.plan.specs.declared.Header.{Header}
+use Rattle.plan.specs.declared.Piece.{Piece}
 use Rattle.plan.specs.declared.Component.{Component}
 use Rattle.plan.specs.Ranges.{count-fits, pivot-fits, order-fits, offset-fits, fraction-fits, coefficient-fits, unsigned-fits}
 use Rattle.plan.specs.Rule7.{every, pivot-places, piece-places, row-places, pivots-used, pieces-used, coefficients-used, no-piece, zero-piece, is-zero, row-fits, piece-fits, piece-empty, pivots-fit, pieces-fit, nlq-fits, component-fits}
+use Rattle.plan.specs.Versions.{pieces-carried, pieces-read}
+use Rattle.plan.proofs.Carrying.{piece-n, piece-above}
 use Rattle.fields.specs.declared.Width.{Width}
 use Rattle.fields.specs.declared.Width.the-variants.{One, Two, Four}
-use Rattle.fields.specs.Fields.{Read, refused, got, repeated}
+use Rattle.fields.specs.Fields.{Read, refused, got, repeated, padded}
 use Rattle.fields.proofs.Giving.{Each, Gives, then-gives, field-gives, repeated-gives, ended-gives}
 use Rattle.section_fields.specs.Fields.{asked, ranged, integer-fits, refused-idc}
 use Rattle.sections.specs.Sections.{coefficient, unsigned, idc, piece, pivot, nlq, section}
 use Rattle.sections.specs.inner.Answering.{found}
 use Rattle.sections.proofs.Places.{and, places}
+use Rattle.sections.proofs.Carried.{all-read, stands-twice}
 use Rattle.sections.proofs.Ranged.{unsigned-in, coefficient-in}
 
 -- a field that has a range
@@ -48,7 +53,7 @@ module _ (h : Header) (k : ℕ) where
       (λ n a rest. then-gives (λ v. fraction-fits h v ≡ true) _ (ranged (asked (kind + 1) k 0 0 Four) (fraction-fits h) rest) _ (in-range (kind + 1) k 0 0 Four (fraction-fits h) rest)
       (λ f b rest. unsigned-in h n f a b))
 
-  piece-gives : (p : ℕ) (bytes : List ℕ) → Gives (λ q. piece-fits h q ≡ true) (piece h k p bytes)
+  pub piece-gives : (p : ℕ) (bytes : List ℕ) → Gives (λ q. piece-fits h q ≡ true) (piece h k p bytes)
   unfolding piece piece-fits row-fits
   piece-gives p bytes =
       then-gives (λ v. eqb v 0 ≡ true) _ (idc k p bytes) _ (field-gives (asked 3 k p 0 One) (λ v. eqb v 0) (refused-idc k) (λ z. omega arith) (some-rule k) bytes)
@@ -70,19 +75,30 @@ module _ (h : Header) (k : ℕ) where
   unfolding piece-empty row-fits every
   empty-piece = refl
 
+  -- what rule 7 asks, and of version 1 that piece n stands twice
+  abbrev pub Fits : ℕ → Component → Type 0
+  Fits version c = (component-fits h c ≡ true) × (version ≡ 1 → piece-above c ≡ piece-n c)
+
+  twice : (version n : ℕ) (l : List Piece) → count-fits n ≡ true → length l ≡ pieces-carried version n → version ≡ 1
+      → let places = padded piece-places zero-piece (pieces-read version n l) in getD places (n + 1) no-piece ≡ getD places n no-piece
+  twice version n l few long one = rw one (stands-twice n (leb-true n 15 few) l (rw one at long))
+
   -- for whoever reads a section
-  pub section-gives : (bytes : List ℕ) → Gives (λ c. component-fits h c ≡ true) (section h k bytes)
+  pub section-gives : (version : ℕ) (bytes : List ℕ) → Gives (Fits version) (section version h k bytes)
   unfolding section component-fits pivots-fit pieces-fit
-  section-gives bytes =
+  section-gives version bytes =
       then-gives (λ v. count-fits v ≡ true) _ (ranged (asked 1 k 0 0 One) count-fits bytes) _ (in-range 1 k 0 0 One count-fits bytes)
       (λ n a rest. let several = pivots-used n in
       then-gives (λ l. (length l ≡ several) × Each (λ v. pivot-fits h v ≡ true) l) _ (repeated 0 several (pivot h k) rest) _ (repeated-gives _ 0 several (pivot h k) (λ i. in-range 2 k i 0 Two (pivot-fits h)) rest)
-      (λ l b rest. let used = pieces-used n in
-      then-gives (λ l. (length l ≡ used) × Each (λ q. piece-fits h q ≡ true) l) _ (repeated 0 used (piece h k) rest) _ (repeated-gives _ 0 used (piece h k) piece-gives rest)
-      (λ m d rest. then-gives (λ q. nlq-fits h q ≡ true) _ (nlq h k rest) _ (nlq-gives rest)
-      (λ q e rest. ended-gives (λ c. component-fits h c ≡ true) _ 3 _ (λ z. omega arith)
-      (and a (and (places (pivot-fits h) (λ v. eqb v 0) 0 0 refl pivot-places several l (b .0) (b .1))
-      (and (places (piece-fits h) (piece-empty h) zero-piece no-piece empty-piece piece-places used m (d .0) (d .1)) e))) rest))))
+      (λ l b rest. let carried = pieces-carried version n in
+      then-gives (λ l. (length l ≡ carried) × Each (λ q. piece-fits h q ≡ true) l) _ (repeated 0 carried (piece h k) rest) _ (repeated-gives _ 0 carried (piece h k) piece-gives rest)
+      (λ m d rest. let r = all-read (λ q. piece-fits h q ≡ true) version n m (d .0) (d .1) in
+      then-gives (λ q. nlq-fits h q ≡ true) _ (nlq h k rest) _ (nlq-gives rest)
+      (λ q e rest. ended-gives (Fits version) _ 3 _ (λ z. omega arith) (
+        and a (and (places (pivot-fits h) (λ v. eqb v 0) 0 0 refl pivot-places several l (b .0) (b .1))
+            (and (places (piece-fits h) (piece-empty h) zero-piece no-piece empty-piece piece-places (pieces-used n) (pieces-read version n m) (r .0) (r .1)) e)),
+        twice version n m a (d .0),
+      ) rest))))
 
 -- where a section failed, in its bytes
 pub place-le : (s : List ℕ) (r : Read Component) → found s r .place ≤ length s

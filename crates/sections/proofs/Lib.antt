@@ -1,4 +1,5 @@
-pub mod Making
 pub mod Places
+pub mod Carried
 pub mod Ranged
 pub mod Fitting
+pub mod Making

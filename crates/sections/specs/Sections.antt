@@ -9,7 +9,8 @@ use Rattle.plan.specs.declared.Piece.{Piece}
 use Rattle.plan.specs.declared.Nlq.{Nlq}
 use Rattle.plan.specs.declared.Component.{Component}
 use Rattle.plan.specs.Ranges.{count-fits, pivot-fits, order-fits, offset-fits, fraction-fits}
-use Rattle.plan.specs.Rule7.{pivot-places, piece-places, row-places, pivots-used, pieces-used, coefficients-used, zero-piece}
+use Rattle.plan.specs.Rule7.{pivot-places, piece-places, row-places, pivots-used, coefficients-used, zero-piece}
+use Rattle.plan.specs.Versions.{pieces-carried, pieces-read}
 use Rattle.fields.specs.declared.Width.the-variants.{One, Two, Four}
 use Rattle.fields.specs.Fields.{Read, got, _then_, field, repeated, padded, ended}
 use Rattle.section_fields.specs.Fields.{asked, ranged, signed, integer-fits, refused-idc}
@@ -53,11 +54,11 @@ nlq h k bytes =
     unsigned h k 12 rest then λ t rest.
     got (record { offset = o; maximum = m; slope = s; threshold = t }) rest
 
--- section k: num_pivots_minus2, the pivots, the pieces, the residual's numbers; bytes left over are refused 3
-unfoldable pub section : Header → ℕ → List ℕ → Read Component
-section h k bytes =
+-- section k of a version: num_pivots_minus2, the pivots, the pieces, the residual's numbers; bytes left over are refused 3
+unfoldable pub section : ℕ → Header → ℕ → List ℕ → Read Component
+section version h k bytes =
     ranged (asked 1 k 0 0 One) count-fits bytes then λ n rest.
     repeated 0 (pivots-used n) (pivot h k) rest then λ pivots rest.
-    repeated 0 (pieces-used n) (piece h k) rest then λ pieces rest.
+    repeated 0 (pieces-carried version n) (piece h k) rest then λ pieces rest.
     nlq h k rest then λ q rest.
-    ended (asked 14 k 0 0 One .name) 3 (record { n = n; preds = padded pivot-places 0 pivots; pieces = padded piece-places zero-piece pieces; nlq = q }) rest
+    ended (asked 14 k 0 0 One .name) 3 (record { n = n; preds = padded pivot-places 0 pivots; pieces = padded piece-places zero-piece (pieces-read version n pieces); nlq = q }) rest

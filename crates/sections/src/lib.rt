@@ -35,16 +35,17 @@ fn failed(number: u8, place: usize, field: Name) -> Found
     }
 }
 
-// Section k of a block, which is the whole of s. Its ranges are made of the header's numbers, so rule 4 is asked of them first.
-pub fn read_section(s: &[u8], h: Header, k: usize) -> Found
-    ensures { λ r. ⌜ r ≡ found (now (s .entry)) (under h k (now (s .entry))) ⌝ }
+// Section k of a block of a version, which is the whole of s. Its ranges are made of the header's numbers, so rule 4 is asked of
+// them first.
+pub fn read_section(s: &[u8], version: u16, h: Header, k: usize) -> Found
+    ensures { λ r. ⌜ r ≡ found (now (s .entry)) (under version h k (now (s .entry))) ⌝ }
     ensures inside { λ r. ⌜ r .place ≤ length (now (s .entry)) ⌝ }
 {
     let none = nameless();
     if !plan::ranges::header_fits(h) {
         return failed(4, 0, none);
     }
-    let r = section(s, h, k);
+    let r = section(s, version, h, k);
     let end = r.next;
     let name = end.name;
     if end.stopped {

@@ -7,15 +7,19 @@ use plan::Header;
 use plan::Piece;
 use plan::limits::PIECES;
 use plan::limits::ROW;
+use plan::versions::copy_last;
+use plan::versions::pieces_carried;
 use section_fields::asked;
 use section_fields::idc;
 use section_fields::kinds::POLY_ORDER_MINUS1;
 ghost use Prim.Native.Nat.{_≤_};
 ghost use lib.IntN.{pos};
+ghost use Rattle.plan.specs.Ranges.{most-n};
 ghost use Rattle.plan.specs.inner.Facts.{HeaderFacts};
 ghost use Rattle.plan.specs.Rule7.{row-places, piece-places, zero-piece};
 ghost use Rattle.fields.specs.inner.Cursors.{Reads, filled};
 ghost use Rattle.sections.specs.Sections.{coefficient, piece};
+ghost use Rattle.sections.specs.inner.Holding.{held};
 
 pub(crate) struct RowRead {
     pub(crate) list: [i64; ROW],
@@ -71,7 +75,7 @@ fn piece(s: &[u8], c: Cursor, h: Header, k: usize, p: usize) -> PieceRead
     PieceRead { piece: q, next: c3 }
 }
 
-pub(crate) fn pieces(s: &[u8], c: Cursor, h: Header, k: usize, count: usize) -> PiecesRead
+fn pieces(s: &[u8], c: Cursor, h: Header, k: usize, count: usize) -> PiecesRead
     requires { ⌜ HeaderFacts h × (count ≤ piece-places) ⌝ }
     ensures { λ r. ⌜ Reads (now (s .entry)) c (filled piece-places zero-piece count (piece h k)) (r .list) (r .next) ⌝ }
 {
@@ -90,6 +94,21 @@ pub(crate) fn pieces(s: &[u8], c: Cursor, h: Header, k: usize, count: usize) -> 
         next = r.next;
         p += 1;
     }
+    PiecesRead {
+        list: list,
+        next: next,
+    }
+}
+
+// The pieces of a component with num_pivots_minus2 n: those that its section carries, and of version 1 piece n again.
+pub(crate) fn held(s: &[u8], c: Cursor, version: u16, h: Header, k: usize, n: u8) -> PiecesRead
+    requires { ⌜ HeaderFacts h × (n ≤ most-n) ⌝ }
+    ensures { λ r. ⌜ Reads (now (s .entry)) c (held version h k n) (r .list) (r .next) ⌝ }
+{
+    let r = pieces(s, c, h, k, pieces_carried(version, n));
+    let carried = r.list;
+    let next = r.next;
+    let list = copy_last(version, n, carried);
     PiecesRead {
         list: list,
         next: next,

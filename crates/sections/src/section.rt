@@ -1,7 +1,7 @@
 // The whole of a section: the number of pivots, the pivots, the pieces and the residual's numbers, and nothing left over.
 use crate::fraction::below_power;
 use crate::fraction::unsigned;
-use crate::pieces::pieces;
+use crate::pieces::held;
 use fields::Cursor;
 use fields::Width;
 use fields::at_most;
@@ -85,10 +85,10 @@ fn nlq(s: &[u8], c: Cursor, h: Header, k: usize) -> NlqRead
     NlqRead { nlq: q, next: c4 }
 }
 
-// Section k, which is the whole of s.
-pub(crate) fn section(s: &[u8], h: Header, k: usize) -> SectionRead
+// Section k, which is the whole of s. Version 1 carries no piece n + 1, and piece n stands for it.
+pub(crate) fn section(s: &[u8], version: u16, h: Header, k: usize) -> SectionRead
     requires { ⌜ HeaderFacts h ⌝ }
-    ensures { λ r. ⌜ Reads (now (s .entry)) start (section h k) (r .component) (r .next) ⌝ }
+    ensures { λ r. ⌜ Reads (now (s .entry)) start (section version h k) (r .component) (r .next) ⌝ }
 {
     let c = fields::start();
     let n = at_most(
@@ -102,7 +102,7 @@ pub(crate) fn section(s: &[u8], h: Header, k: usize) -> SectionRead
     let v = pivots(s, c1, h, k, (n.value as usize) + 2);
     let preds = v.list;
     let c2 = v.next;
-    let p = pieces(s, c2, h, k, (n.value as usize) + 1);
+    let p = held(s, c2, version, h, k, n.value as u8);
     let list = p.list;
     let c3 = p.next;
     let q = nlq(s, c3, h, k);

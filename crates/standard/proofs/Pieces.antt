@@ -1,13 +1,13 @@
 -- What a search has to show of its answer, so that any search for the piece can be proved; and what follows of a piece. Assumes nothing.
-use mathlib.Core.Path.{_≡_, refl, sym, ap, ap₂, _∙_}
+use mathlib.Core.Path.{_≡_, refl, sym, ap, ap₂}
 use mathlib.Core.Bool.{Bool, true, false, cond}
 use mathlib.Core.Logic.{⊎-elim}
-use Prim.Native.Nat.{ℕ, zero, suc, _+_, _<_, _≤_, min}
+use Prim.Native.Nat.{ℕ, zero, suc, _+_, _<_, _≤_}
 use native.Mathlib.Nat.{lt-irrefl, le-refl, eq-or-lt-of-le}
 use native.Mathlib.Omega.{arith}
 use lib.Dec.{ltb}
 use borrow.Author.Tests.{ltb-true, ltb-false}
-use Rattle.standard.specs.Mapping.{first-above, pivot-idx, piece}
+use Rattle.standard.specs.Mapping.{first-above, pivot-idx}
 
 module _ (pivot : ℕ → ℕ) (s : ℕ) where
   -- one turn of the loop: the test of idx, and what is found later
@@ -26,41 +26,38 @@ module _ (pivot : ℕ → ℕ) (s : ℕ) where
       (λ p. is-first (idx + 1) k r p (omega arith) (λ j a b. before j (omega arith) b) (λ q. here (omega arith)))
       (ltb s (pivot (idx + 1))) refl
 
-  is-idx : (n r : ℕ) → r ≤ n + 1 → ((j : ℕ) → j < r → pivot (j + 1) ≤ s) → (r < n + 1 → s < pivot (r + 1)) → r ≡ pivot-idx pivot n s
+  -- a search that stops at r, the first index up to n whose next pivot is greater than s, or n + 1, has found the piece
+  pub is-idx : (n r : ℕ) → r ≤ n + 1 → ((j : ℕ) → j < r → pivot (j + 1) ≤ s) → (r < n + 1 → s < pivot (r + 1)) → r ≡ pivot-idx pivot n s
   unfolding pivot-idx
   is-idx n r hi before here = is-first 0 (n + 1) r (omega arith) (omega arith) (λ j a b. before j b) (λ q. here (omega arith))
 
-  last : (n : ℕ) → ((j : ℕ) → j < n → pivot (j + 1) ≤ s) → (t : Bool) → ltb s (pivot (n + 1)) ≡ t → n ≡ piece pivot n s
-  unfolding piece
-  last n before true e = let h : n ≡ pivot-idx pivot n s = is-idx n n (omega arith) before (λ q. ltb-true s (pivot (n + 1)) e) in omega arith
-  last n before false e =
-      let h : n + 1 ≡ pivot-idx pivot n s =
-      is-idx n (n + 1) (le-refl (n + 1))
-      (λ j b. ⊎-elim (λ p. let q : j ≡ n = omega arith in rw q (ltb-false s (pivot (n + 1)) e)) (λ p. before j (omega arith)) (eq-or-lt-of-le b))
-      (λ q. absurd (lt-irrefl (n + 1) q)) in
-      omega arith
-
--- a search that stops at r, the first index below n whose next pivot is greater than s, or n, has found the piece
-pub is-piece : (pivot : ℕ → ℕ) (n s r : ℕ) → r ≤ n → ((j : ℕ) → j < r → pivot (j + 1) ≤ s) → (r < n → s < pivot (r + 1)) → r ≡ piece pivot n s
-unfolding piece
-is-piece pivot n s r hi before here =
-    ⊎-elim
-    (λ p. p ∙ last pivot s n (λ j b. before j (omega arith)) (ltb s (pivot (n + 1))) refl)
-    (λ p. let h : r ≡ pivot-idx pivot n s = is-idx pivot s n r (omega arith) before (λ q. here p) in omega arith)
-    (eq-or-lt-of-le hi)
-
-pub piece-le : (pivot : ℕ → ℕ) (n s : ℕ) → piece pivot n s ≤ n
-unfolding piece
-piece-le pivot n s = omega arith
-
 -- the piece asks only for the pivots 1 to n + 1
-pub piece-cong : (p q : ℕ → ℕ) (n s : ℕ) → ((i : ℕ) → i ≤ n + 1 → p i ≡ q i) → piece p n s ≡ piece q n s
-unfolding piece pivot-idx first-above
-piece-cong p q n s e = ap (λ (i : ℕ). min i n) (go 0 (n + 1) (omega arith))
+pub idx-cong : (p q : ℕ → ℕ) (n s : ℕ) → ((i : ℕ) → i ≤ n + 1 → p i ≡ q i) → pivot-idx p n s ≡ pivot-idx q n s
+unfolding pivot-idx first-above
+idx-cong p q n s e = go 0 (n + 1) (omega arith)
   where
     go : (idx k : ℕ) → idx + k ≤ n + 1 → first-above p s idx k ≡ first-above q s idx k
     go idx zero h = refl
     go idx (suc k) h = ap₂ (λ (v later : ℕ). cond (ltb s v) idx later) (e (idx + 1) (omega arith)) (go (idx + 1) k (omega arith))
 
-pub only-piece : (pivot : ℕ → ℕ) (s : ℕ) → piece pivot 0 s ≡ 0
-only-piece pivot s = omega (arith, piece-le pivot 0 s)
+-- there are n + 2 pieces
+pub idx-le : (pivot : ℕ → ℕ) (n s : ℕ) → pivot-idx pivot n s ≤ n + 1
+unfolding pivot-idx first-above
+idx-le pivot n s = omega (arith, go 0 (n + 1))
+  where
+    either : (t : Bool) (a b m : ℕ) → a ≤ m → b ≤ m → cond t a b ≤ m
+    either true a b m h k = h
+    either false a b m h k = k
+
+    go : (idx k : ℕ) → first-above pivot s idx k ≤ idx + k
+    go idx zero = omega arith
+    go idx (suc k) = either (ltb s (pivot (idx + 1))) idx (first-above pivot s (idx + 1) k) (idx + suc k) (omega arith) (omega (arith, go (idx + 1) k))
+
+-- of one piece and the one above it, what holds of both holds of the sample's
+pub of-two : (P : ℕ → Type 0) (pivot : ℕ → ℕ) (s : ℕ) → P 0 → P 1 → P (pivot-idx pivot 0 s)
+unfolding pivot-idx first-above
+of-two P pivot s a b = go (ltb s (pivot 1))
+  where
+    go : (t : Bool) → P (cond t 0 1)
+    go true = a
+    go false = b

@@ -1,4 +1,5 @@
--- The worked examples: E1 to E14 of the house rules as one statement about `mapped`, and residuals worked by hand.
+-- The worked examples: E1 to E14 of the house rules as one statement about `mapped`, samples round the last pivot, and residuals worked by
+-- hand.
 use mathlib.Core.Path.{_≡_}
 use mathlib.Core.List.{List, [], _∷_}
 use Prim.Native.Nat.{ℕ}
@@ -12,13 +13,12 @@ use Rattle.standard.specs.Residual.{residual, reconstructed}
 abbrev pub pieces : List ℕ → ℕ → ℕ → List (List ℤ) → Mapping
 pieces preds n order rows = record { num-pivots-minus2 = n; pred-pivot-value = λ i. getD preds i 0; poly-order-minus1 = λ p. order; fp-poly-coef = λ p i. getD (getD rows p []) i (pos 0) }
 
--- one piece of order 1 over the pivots 0 and 1023
+-- one piece over the pivots 0 and 1023, of order 1 or 2: like every plan of E1 to E14 it holds its last piece twice
 abbrev pub line : ℤ → ℤ → Mapping
-line c0 c1 = pieces (0 ∷ 1023 ∷ []) 0 0 ((c0 ∷ c1 ∷ []) ∷ [])
+line c0 c1 = pieces (0 ∷ 1023 ∷ []) 0 0 ((c0 ∷ c1 ∷ []) ∷ (c0 ∷ c1 ∷ []) ∷ [])
 
--- one piece of order 2 over the same pivots
 abbrev pub curve : ℤ → ℤ → ℤ → Mapping
-curve c0 c1 c2 = pieces (0 ∷ 1023 ∷ []) 0 1 ((c0 ∷ c1 ∷ c2 ∷ []) ∷ [])
+curve c0 c1 c2 = pieces (0 ∷ 1023 ∷ []) 0 1 ((c0 ∷ c1 ∷ c2 ∷ []) ∷ (c0 ∷ c1 ∷ c2 ∷ []) ∷ [])
 
 -- "linear": coefficients 0 and 1.0
 abbrev pub linear : Mapping
@@ -26,15 +26,15 @@ linear = line (pos 0) (fp 15 (pos 1) 0)
 
 -- linear over the pivots 100 and 200
 abbrev pub narrow : Mapping
-narrow = pieces (100 ∷ 100 ∷ []) 0 0 ((pos 0 ∷ fp 15 (pos 1) 0 ∷ []) ∷ [])
+narrow = pieces (100 ∷ 100 ∷ []) 0 0 ((pos 0 ∷ fp 15 (pos 1) 0 ∷ []) ∷ (pos 0 ∷ fp 15 (pos 1) 0 ∷ []) ∷ [])
 
 -- pivots 0, 512, 1023: piece 0 all zero, piece 1 the constant 0.5
 abbrev pub halves : Mapping
-halves = pieces (0 ∷ 512 ∷ 511 ∷ []) 1 0 ((pos 0 ∷ pos 0 ∷ []) ∷ (fp 15 (pos 0) 16384 ∷ pos 0 ∷ []) ∷ [])
+halves = pieces (0 ∷ 512 ∷ 511 ∷ []) 1 0 ((pos 0 ∷ pos 0 ∷ []) ∷ (fp 15 (pos 0) 16384 ∷ pos 0 ∷ []) ∷ (fp 15 (pos 0) 16384 ∷ pos 0 ∷ []) ∷ [])
 
 -- linear at depth 8, d = 13, over the pivots 0 and 255
 abbrev pub linear8 : Mapping
-linear8 = pieces (0 ∷ 255 ∷ []) 0 0 ((pos 0 ∷ fp 13 (pos 1) 0 ∷ []) ∷ [])
+linear8 = pieces (0 ∷ 255 ∷ []) 0 0 ((pos 0 ∷ fp 13 (pos 1) 0 ∷ []) ∷ (pos 0 ∷ fp 13 (pos 1) 0 ∷ []) ∷ [])
 
 -- E1 to E14; depth 10 and d = 15 but for E14
 pub record WorkedExamples : Type 0 where
@@ -52,6 +52,22 @@ pub record WorkedExamples : Type 0 where
   pub e12 : mapped 10 15 halves 511 ≡ 0
   pub e13 : mapped 10 15 halves 512 ≡ 32768
   pub e14 : mapped 8 13 linear8 255 ≡ 65280
+
+-- pieces 1.0 s, 0.5 s and 0.25 s, one after the other, over the given pivots
+abbrev pub bent : List ℕ → ℕ → Mapping
+bent preds n = pieces preds n 0 ((pos 0 ∷ fp 15 (pos 1) 0 ∷ []) ∷ (pos 0 ∷ fp 15 (pos 0) 16384 ∷ []) ∷ (pos 0 ∷ fp 15 (pos 0) 8192 ∷ []) ∷ [])
+
+-- worked by hand from 5.4.2.2: a sample that no pivot exceeds takes piece n + 1, at the last pivot
+pub record WorkedLastPieces : Type 0 where
+  -- pivots 100 and 200: just below the last one piece 0, 199 x 64; at it and above it piece 1, 200 x 32
+  pub l1 : mapped 10 15 (bent (100 ∷ 100 ∷ []) 0) 199 ≡ 12736
+  pub l2 : mapped 10 15 (bent (100 ∷ 100 ∷ []) 0) 200 ≡ 6400
+  pub l3 : mapped 10 15 (bent (100 ∷ 100 ∷ []) 0) 1023 ≡ 6400
+  -- pivots 100, 200 and 200: nothing lies between equal pivots, and 200 takes piece 2, 200 x 16
+  pub l4 : mapped 10 15 (bent (100 ∷ 100 ∷ 0 ∷ []) 1) 199 ≡ 12736
+  pub l5 : mapped 10 15 (bent (100 ∷ 100 ∷ 0 ∷ []) 1) 200 ≡ 3200
+  -- pivots 100 and 1123: no sample reaches the last one
+  pub l6 : mapped 10 15 (bent (100 ∷ 1023 ∷ []) 0) 1023 ≡ 65472
 
 -- inverse quantization and reconstruction, worked by hand from the pseudo-code; slope 5, threshold 4 and maximum 100 in units of 2 ^ -d
 abbrev pub around : ℕ → Quantization

@@ -17,13 +17,9 @@ first-above pivot s idx (suc k) =
     let later = first-above pivot s (idx + 1) k in
     cond (ltb s (pivot (idx + 1))) idx later
 
--- 5.4.2.2: pivot_idx of a sample s that is not clamped yet, among n + 2 pivots; n + 1 where no pivot is greater
+-- 5.4.2.2: pivot_idx, the piece of a sample s that is not clamped yet, among n + 2 pivots; n + 1 where no pivot is greater
 unfoldable pub pivot-idx : (ℕ → ℕ) → ℕ → ℕ → ℕ
 pivot-idx pivot n s = first-above pivot s 0 (n + 1)
-
--- house: there is no piece n + 1, and the last one, n, stands in for it
-unfoldable pub piece : (ℕ → ℕ) → ℕ → ℕ → ℕ
-piece pivot n s = min (pivot-idx pivot n s) n
 
 -- 5.4.2.3.2: s is raised to the first pivot, then lowered to the last
 abbrev pub clamped : ℕ → ℕ → ℕ → ℕ
@@ -56,5 +52,5 @@ unfoldable pub mapped : ℕ → ℕ → Mapping → ℕ → ℕ
 mapped depth d m s =
     let pivot = pivot-value (m .pred-pivot-value) in
     let n = m .num-pivots-minus2 in
-    let p = piece pivot n s in
+    let p = pivot-idx pivot n s in
     polynomial depth d (m .fp-poly-coef p) (m .poly-order-minus1 p) (clamped (pivot 0) (pivot (n + 1)) s)

@@ -1,53 +1,66 @@
 -- The refusals in their order, and what each leaves. Assumes nothing.
 use mathlib.Core.Path.{_≡_, refl, sym, _∙_}
-use mathlib.Core.Bool.{Bool, true, false, _&&_, true≢false}
+use mathlib.Core.Bool.{Bool, true, false, _||_, true≢false, false≢true}
 use mathlib.Core.List.{List, [], _∷_, _++_}
 use Prim.Native.Nat.{ℕ, _+_, _≤_, _<_}
 use native.Mathlib.Omega.{arith}
 use lib.Dec.{eqb}
 use lib.ListN.{length, drop}
-use borrow.Author.Tests.{ne-eqb, lt-ltb, le-ltb}
+use borrow.Author.Tests.{eqb-false, ne-eqb, lt-ltb, le-ltb}
 use Rattle.refusals.specs.Refusals.{granted, denied, outcome}
+use Rattle.plan.specs.declared.Component.{Component}
 use Rattle.plan.specs.declared.Plan.{Plan}
+use Rattle.plan.specs.Ranges.{count-fits}
 use Rattle.plan.specs.Rule7.{fitting}
+use Rattle.plan.specs.Versions.{can-carry}
 use Rattle.plan.proofs.Truths.{both}
 use Rattle.section_writer.specs.inner.Writing.{section-length}
+use Rattle.section_writer.proofs.Sizes.{some-written}
 use Rattle.writer.specs.Writing.{block, writable, block-length, Limits, refusal, answer, written}
-use Rattle.writer.proofs.Blocks.{added-up, block-between}
+use Rattle.writer.proofs.Blocks.{Carried, some-bytes, its-length, y-carried, cb-carried, cr-carried, added-up, block-between}
 
 -- what the tests show
-pub other-version : (p : Plan) (version : ℕ) → (version ≡ 1 → ⊥) → writable p version ≡ false
-unfolding writable
-other-version p version f = rw (ne-eqb version 1 f) (go (fitting p))
-  where
-    go : (t : Bool) → (t && false) ≡ false
-    go true = refl
-    go false = refl
-
 pub bad-plan : (p : Plan) (version : ℕ) → fitting p ≡ false → writable p version ≡ false
 unfolding writable
 bad-plan p version e = rw e
 
-pub good : (p : Plan) (version : ℕ) → version ≡ 1 → fitting p ≡ true → writable p version ≡ true
-unfolding writable
-good p version v e = rw (v, e)
+module _ (p : Plan) (version : ℕ) {a b c : ℕ} (f : a ≡ section-length version (p .y)) (g : b ≡ section-length version (p .cb)) (i : c ≡ section-length version (p .cr)) where
+  -- a component has no section of this version where its length is 0
+  pub no-block : (eqb a 0 || (eqb b 0 || eqb c 0)) ≡ true → writable p version ≡ false
+  no-block e = go (writable p version) refl
+    where
+      some : {c : Component} {m : ℕ} → Carried p version c → m ≡ section-length version c → eqb m 0 ≡ false
+      some {m = m} q l = ne-eqb m 0 (λ z. omega (arith, z, its-length p version q l .0, some-bytes p version q))
 
-pub is-fitting : (p : Plan) (version : ℕ) → writable p version ≡ true → fitting p ≡ true
-unfolding writable
-is-fitting p version e = both (fitting p) (eqb version 1) e .0
+      go : (t : Bool) → writable p version ≡ t → t ≡ false
+      go true w = absurd (false≢true (rw (some (y-carried p version w) f, some (cb-carried p version w) g, some (cr-carried p version w) i) at e))
+      go false w = refl
+
+  pub has-block : fitting p ≡ true → (eqb a 0 || (eqb b 0 || eqb c 0)) ≡ false → writable p version ≡ true
+  unfolding writable
+  has-block t e =
+      let x = neither (eqb a 0) _ e in
+      let y = neither (eqb b 0) (eqb c 0) (x .1) in
+      rw (t, carried (p .y) f (eqb-false a 0 (x .0)), carried (p .cb) g (eqb-false b 0 (y .0)), carried (p .cr) i (eqb-false c 0 (y .1)))
+    where
+      neither : (s t : Bool) → (s || t) ≡ false → (s ≡ false) × (t ≡ false)
+      neither true t e = absurd (true≢false e)
+      neither false t e = (refl, e)
+
+      carried : (c : Component) {m : ℕ} → m ≡ section-length version c → (m ≡ 0 → ⊥) → can-carry version c ≡ true
+      carried c l z = both (count-fits (c .n)) (can-carry version c) (some-written version c l z) .1
 
 module _ (p : Plan) (version : ℕ) where
   pub no-length : writable p version ≡ false → (0 ≡ block-length p version) × Limits p version 0
   unfolding block-length
   no-length e = (rw e, record { shortest = λ t. absurd (true≢false (sym t ∙ e)); longest = omega arith })
 
-  pub has-length : {a b c : ℕ} → writable p version ≡ true → a ≡ section-length (p .y) → b ≡ section-length (p .cb) → c ≡ section-length (p .cr)
+  pub has-length : {a b c : ℕ} → writable p version ≡ true → a ≡ section-length version (p .y) → b ≡ section-length version (p .cb) → c ≡ section-length version (p .cr)
       → let n = 24 + a + b + c + 12 in (n ≡ block-length p version) × Limits p version n
   unfolding block-length
   has-length {a} {b} {c} e f g h =
-      let t = is-fitting p version e in
-      let size = added-up p t f g h version in
-      let k = block-between p t version in
+      let size = added-up p version e f g h in
+      let k = block-between p version e in
       (rw e size, record { shortest = λ _. omega (arith, size, k .0); longest = omega (arith, size, k .1) })
 
   module _ (s : List ℕ) where

@@ -1,13 +1,18 @@
--- The block of a plan that passes rule 7: how long it is, and that it is written part by part. Assumes nothing.
+-- The block of a plan that has one: how long it is, and that it is written part by part. Assumes nothing.
 use mathlib.Core.Path.{_≡_, refl, sym}
-use mathlib.Core.Bool.{true}
+use mathlib.Core.Bool.{Bool, true, false, cond}
 use mathlib.Core.List.{List, _++_}
 use Prim.Native.Nat.{ℕ, _+_, _≤_}
+use native.Mathlib.Nat.{le-trans}
 use native.Mathlib.Omega.{arith}
+use lib.Dec.{eqb}
 use lib.ListN.{length, drop, length-append}
+use borrow.Author.Tests.{le-leb}
+use Rattle.plan.specs.declared.Component.{Component}
 use Rattle.plan.specs.declared.Plan.{Plan}
 use Rattle.plan.specs.Ranges.{header-fits}
 use Rattle.plan.specs.Rule7.{component-fits, fitting}
+use Rattle.plan.specs.Versions.{can-carry}
 use Rattle.plan.proofs.Truths.{both}
 use Rattle.plan.proofs.Facts.{header-facts, y-usable, cb-usable, cr-usable}
 use Rattle.pen.specs.Bytes.{bytes-of}
@@ -15,98 +20,118 @@ use Rattle.pen.specs.inner.Putting.{Inked}
 use Rattle.pen.proofs.Inking.{on, same-length, from-front}
 use Rattle.header_writer.specs.Header.{header-bytes}
 use Rattle.section_writer.specs.Section.{section-bytes}
-use Rattle.section_writer.specs.inner.Writing.{put-section, section-length}
+use Rattle.section_writer.specs.inner.Writing.{has-section, put-section, section-length}
 use Rattle.section_writer.proofs.Sizes.{is-length}
-use Rattle.section_writer.proofs.Bounds.{few, section-between, section-inked}
-use Rattle.writer.specs.Writing.{trailer-bytes, block}
+use Rattle.section_writer.proofs.Bounds.{least, most, least-le, most-le, few, section-between, section-inked}
+use Rattle.writer.specs.Writing.{trailer-bytes, block, writable}
 
 -- the parts of a block
-module _ (p : Plan) where
+module _ (p : Plan) (version : ℕ) where
   abbrev pub s0 : List ℕ
-  s0 = section-bytes (p .header .d) (p .y)
+  s0 = section-bytes version (p .header .d) (p .y)
 
   abbrev pub s1 : List ℕ
-  s1 = section-bytes (p .header .d) (p .cb)
+  s1 = section-bytes version (p .header .d) (p .cb)
 
   abbrev pub s2 : List ℕ
-  s2 = section-bytes (p .header .d) (p .cr)
+  s2 = section-bytes version (p .header .d) (p .cr)
 
-  abbrev pub trailer-of : ℕ → List ℕ
-  trailer-of version =
+  abbrev pub trailer-of : List ℕ
+  trailer-of =
       let d2 = length s2 in
       let d1 = length s1 + d2 in
       let d0 = length s0 + d1 in
       trailer-bytes (24 + d0) d0 d1 d2 version
 
-  trailer-size : (a d0 d1 d2 version : ℕ) → length (trailer-bytes a d0 d1 d2 version) ≡ 12
+  trailer-size : (a d0 d1 d2 : ℕ) → length (trailer-bytes a d0 d1 d2 version) ≡ 12
   unfolding trailer-bytes bytes-of
-  trailer-size a d0 d1 d2 version = refl
+  trailer-size a d0 d1 d2 = refl
 
   summed : (a b c d e : List ℕ) → length a ≡ 24 → length e ≡ 12 → length (a ++ (b ++ (c ++ (d ++ e)))) ≡ 24 + length b + length c + length d + 12
   summed a b c d e u v = omega (arith, u, v, length-append a (b ++ (c ++ (d ++ e))), length-append b (c ++ (d ++ e)), length-append c (d ++ e), length-append d e)
 
-  pub block-size : (version : ℕ) → length (block p version) ≡ 24 + length s0 + length s1 + length s2 + 12
+  pub block-size : length (block p version) ≡ 24 + length s0 + length s1 + length s2 + 12
   unfolding block header-bytes bytes-of
-  block-size version = summed (header-bytes (p .header)) s0 s1 s2 (trailer-of version) refl (trailer-size _ _ _ _ _)
+  block-size = summed (header-bytes (p .header)) s0 s1 s2 trailer-of refl (trailer-size _ _ _ _)
 
-  module _ (e : fitting p ≡ true) where
-    pub deep : p .header .d ≤ 32
-    deep = header-facts p e .shallow
+  -- what a component gives of which the plan's block of this version is made
+  pub record Carried (c : Component) : Type 0 where
+    pub fits : component-fits (p .header) c ≡ true
+    pub carries : can-carry version c ≡ true
 
-    pub y-fits : component-fits (p .header) (p .y) ≡ true
-    y-fits = both (header-fits (p .header)) _ (y-usable p e) .1
+  module _ {c : Component} (q : Carried c) where
+    has : has-section version c ≡ true
+    has = rw (le-leb (c .n) 15 (few (p .header) c (q .fits)), q .carries)
 
-    pub cb-fits : component-fits (p .header) (p .cb) ≡ true
-    cb-fits = both (header-fits (p .header)) _ (cb-usable p e) .1
+    between : (least version ≤ length (section-bytes version (p .header .d) c)) × (length (section-bytes version (p .header .d) c) ≤ most version)
+    between = section-between (p .header) c (q .fits) version (p .header .d)
 
-    pub cr-fits : component-fits (p .header) (p .cr) ≡ true
-    cr-fits = both (header-fits (p .header)) _ (cr-usable p e) .1
-
-    pub block-between : (version : ℕ) → (138 ≤ length (block p version)) × (length (block p version) ≤ 1008)
-    block-between version =
-        let y = section-between (p .header) (p .y) y-fits (p .header .d) in
-        let cb = section-between (p .header) (p .cb) cb-fits (p .header .d) in
-        let cr = section-between (p .header) (p .cr) cr-fits (p .header .d) in
-        (omega (arith, block-size version, y .0, cb .0, cr .0), omega (arith, block-size version, y .1, cb .1, cr .1))
+    pub some-bytes : 34 ≤ length (section-bytes version (p .header .d) c)
+    some-bytes = le-trans (least-le version) (between .0)
 
     -- a section's length, as it is answered
-    pub y-length : {a : ℕ} → a ≡ section-length (p .y) → (length s0 ≡ a) × (a ≤ 324)
-    y-length f = let l = is-length (p .y) (p .header .d) (few (p .header) (p .y) y-fits) f in (l, rw (← l) (section-between (p .header) (p .y) y-fits (p .header .d) .1))
+    pub its-length : {a : ℕ} → a ≡ section-length version c → (length (section-bytes version (p .header .d) c) ≡ a) × (a ≤ 341)
+    its-length f = let l = is-length version c (p .header .d) has f in (l, rw (← l) (le-trans (between .1) (most-le version)))
 
-    pub cb-length : {a : ℕ} → a ≡ section-length (p .cb) → (length s1 ≡ a) × (a ≤ 324)
-    cb-length f = let l = is-length (p .cb) (p .header .d) (few (p .header) (p .cb) cb-fits) f in (l, rw (← l) (section-between (p .header) (p .cb) cb-fits (p .header .d) .1))
+  module _ (e : writable p version ≡ true) where
+    parts : (fitting p ≡ true) × ((can-carry version (p .y) ≡ true) × ((can-carry version (p .cb) ≡ true) × (can-carry version (p .cr) ≡ true)))
+    unfolding writable
+    parts =
+        let f = both (fitting p) _ e in
+        let y = both (can-carry version (p .y)) _ (f .1) in
+        (f .0, (y .0, both (can-carry version (p .cb)) (can-carry version (p .cr)) (y .1)))
 
-    pub cr-length : {a : ℕ} → a ≡ section-length (p .cr) → (length s2 ≡ a) × (a ≤ 324)
-    cr-length f = let l = is-length (p .cr) (p .header .d) (few (p .header) (p .cr) cr-fits) f in (l, rw (← l) (section-between (p .header) (p .cr) cr-fits (p .header .d) .1))
+    pub is-fitting : fitting p ≡ true
+    is-fitting = parts .0
+
+    pub y-carried : Carried (p .y)
+    y-carried = record { fits = both (header-fits (p .header)) _ (y-usable p is-fitting) .1; carries = parts .1 .0 }
+
+    pub cb-carried : Carried (p .cb)
+    cb-carried = record { fits = both (header-fits (p .header)) _ (cb-usable p is-fitting) .1; carries = parts .1 .1 .0 }
+
+    pub cr-carried : Carried (p .cr)
+    cr-carried = record { fits = both (header-fits (p .header)) _ (cr-usable p is-fitting) .1; carries = parts .1 .1 .1 }
+
+    deep : p .header .d ≤ 32
+    deep = header-facts p is-fitting .shallow
+
+    pub block-between : (cond (eqb version 1) 138 174 ≤ length (block p version)) × (length (block p version) ≤ cond (eqb version 1) 1008 1059)
+    block-between = go (eqb version 1) (between y-carried) (between cb-carried) (between cr-carried) block-size
+      where
+        go : (t : Bool) {a b c n : ℕ} → (cond t 34 46 ≤ a) × (a ≤ cond t 324 341) → (cond t 34 46 ≤ b) × (b ≤ cond t 324 341) → (cond t 34 46 ≤ c) × (c ≤ cond t 324 341)
+            → n ≡ 24 + a + b + c + 12 → (cond t 138 174 ≤ n) × (n ≤ cond t 1008 1059)
+        go true x y z f = (omega (arith, x .0, y .0, z .0), omega (arith, x .1, y .1, z .1))
+        go false x y z f = (omega (arith, x .0, y .0, z .0), omega (arith, x .1, y .1, z .1))
 
     -- all three
-    module _ {a b c : ℕ} (f : a ≡ section-length (p .y)) (g : b ≡ section-length (p .cb)) (i : c ≡ section-length (p .cr)) where
+    module _ {a b c : ℕ} (f : a ≡ section-length version (p .y)) (g : b ≡ section-length version (p .cb)) (i : c ≡ section-length version (p .cr)) where
       lengths : (length s0 ≡ a) × ((length s1 ≡ b) × (length s2 ≡ c))
-      lengths = (y-length f .0, (cb-length g .0, cr-length i .0))
+      lengths = (its-length y-carried f .0, (its-length cb-carried g .0, its-length cr-carried i .0))
 
-      pub added-up : (version : ℕ) → 24 + a + b + c + 12 ≡ length (block p version)
-      added-up version = rw (← lengths .0, ← lengths .1 .0, ← lengths .1 .1) (sym (block-size version))
+      pub added-up : 24 + a + b + c + 12 ≡ length (block p version)
+      added-up = rw (← lengths .0, ← lengths .1 .0, ← lengths .1 .1) (sym block-size)
 
-      behind : (version : ℕ) → trailer-bytes (24 + (a + (b + c))) (a + (b + c)) (b + c) c version ≡ trailer-of version
-      behind version = rw (lengths .0, lengths .1 .0, lengths .1 .1)
+      behind : trailer-bytes (24 + (a + (b + c))) (a + (b + c)) (b + c) c version ≡ trailer-of
+      behind = rw (lengths .0, lengths .1 .0, lengths .1 .1)
 
-      module _ {s t0 t1 t2 t3 : List ℕ} (version : ℕ) (room : length (block p version) ≤ length s) (h : Inked s 0 (header-bytes (p .header)) t0 24)
-          (u : t1 ≡ put-section t0 24 (p .header .d) (p .y)) (v : t2 ≡ put-section t1 (24 + a) (p .header .d) (p .cb)) (w : t3 ≡ put-section t2 (24 + a + b) (p .header .d) (p .cr)) where
+      module _ {s t0 t1 t2 t3 : List ℕ} (room : length (block p version) ≤ length s) (h : Inked s 0 (header-bytes (p .header)) t0 24)
+          (u : t1 ≡ put-section t0 24 version (p .header .d) (p .y)) (v : t2 ≡ put-section t1 (24 + a) version (p .header .d) (p .cb)) (w : t3 ≡ put-section t2 (24 + a + b) version (p .header .d) (p .cr)) where
         all : 24 + length s0 + length s1 + length s2 + 12 ≤ length s
-        all = omega (arith, block-size version)
+        all = omega (arith, block-size)
 
         y-inked : Inked t0 24 s0 t1 (24 + a)
-        y-inked = section-inked (p .header) (p .y) y-fits 24 (p .header .d) deep (omega (arith, all, same-length h)) u f
+        y-inked = section-inked (p .header) (p .y) (y-carried .fits) 24 version (p .header .d) (y-carried .carries) deep (omega (arith, all, same-length h)) u f
 
         cb-inked : Inked t1 (24 + a) s1 t2 (24 + a + b)
-        cb-inked = section-inked (p .header) (p .cb) cb-fits (24 + a) (p .header .d) deep (omega (arith, all, same-length h, same-length y-inked, lengths .0)) v g
+        cb-inked = section-inked (p .header) (p .cb) (cb-carried .fits) (24 + a) version (p .header .d) (cb-carried .carries) deep (omega (arith, all, same-length h, same-length y-inked, lengths .0)) v g
 
         cr-inked : Inked t2 (24 + a + b) s2 t3 (24 + a + b + c)
-        cr-inked = section-inked (p .header) (p .cr) cr-fits (24 + a + b) (p .header .d) deep (omega (arith, all, same-length h, same-length y-inked, same-length cb-inked, lengths .0, lengths .1 .0)) w i
+        cr-inked = section-inked (p .header) (p .cr) (cr-carried .fits) (24 + a + b) version (p .header .d) (cr-carried .carries) deep (omega (arith, all, same-length h, same-length y-inked, same-length cb-inked, lengths .0, lengths .1 .0)) w i
 
         pub trailer-room : 24 + a + b + c + 12 ≤ length t3
         trailer-room = omega (arith, all, same-length h, same-length y-inked, same-length cb-inked, same-length cr-inked, lengths .0, lengths .1 .0, lengths .1 .1)
 
         pub made-block : {t4 : List ℕ} → Inked t3 (24 + a + b + c) (trailer-bytes (24 + (a + (b + c))) (a + (b + c)) (b + c) c version) t4 (24 + a + b + c + 12) → t4 ≡ block p version ++ drop (length (block p version)) s
         unfolding block
-        made-block t = from-front {bytes = block p version} (on h (on y-inked (on cb-inked (on cr-inked (rw (behind version) at t))))) room
+        made-block t = from-front {bytes = block p version} (on h (on y-inked (on cb-inked (on cr-inked (rw behind at t))))) room

@@ -8,6 +8,7 @@ use lib.ListN.{length, drop}
 use Rattle.refusals.specs.Refusals.{Rule, rule, first-met, Outcome, granted, denied, outcome}
 use Rattle.plan.specs.declared.Plan.{Plan}
 use Rattle.plan.specs.Rule7.{fitting}
+use Rattle.plan.specs.Versions.{can-carry}
 use Rattle.pen.specs.Bytes.{bytes-of}
 use Rattle.header_writer.specs.Header.{header-bytes}
 use Rattle.section_writer.specs.Section.{section-bytes}
@@ -22,28 +23,28 @@ trailer-bytes a d0 d1 d2 version =
 -- header, section 0, section 1, section 2, trailer, with nothing between; the trailer's distances go back from its first byte
 unfoldable pub block : Plan → ℕ → List ℕ
 block p version =
-    let s0 = section-bytes (p .header .d) (p .y) in
-    let s1 = section-bytes (p .header .d) (p .cb) in
-    let s2 = section-bytes (p .header .d) (p .cr) in
+    let s0 = section-bytes version (p .header .d) (p .y) in
+    let s1 = section-bytes version (p .header .d) (p .cb) in
+    let s2 = section-bytes version (p .header .d) (p .cr) in
     let d2 = length s2 in
     let d1 = length s1 + d2 in
     let d0 = length s0 + d1 in
     header-bytes (p .header) ++ (s0 ++ (s1 ++ (s2 ++ trailer-bytes (24 + d0) d0 d1 d2 version)))
 
--- a plan that passes rule 7 has a block, of version 1
+-- a plan that passes rule 7 has a block of version 2, and one of version 1 where piece n stands twice in each component
 unfoldable pub writable : Plan → ℕ → Bool
-writable p version = fitting p && eqb version 1
+writable p version = fitting p && (can-carry version (p .y) && (can-carry version (p .cb) && can-carry version (p .cr)))
 
 -- the length of a plan's block; 0 where it has none
 unfoldable pub block-length : Plan → ℕ → ℕ
 block-length p version = cond (writable p version) (length (block p version)) 0
 
--- every block has 138 to 1,008 bytes
+-- every block of version 1 has 138 to 1,008 bytes, and of version 2 174 to 1,059
 pub record Limits (p : Plan) (version n : ℕ) : Type 0 where
-  pub shortest : writable p version ≡ true → 138 ≤ n
-  pub longest : n ≤ 1008
+  pub shortest : writable p version ≡ true → cond (eqb version 1) 138 174 ≤ n
+  pub longest : n ≤ cond (eqb version 1) 1008 1059
 
--- rule 7: the plan or the version; rule 12: the slice is shorter than the block
+-- rule 7: the plan, or that it has no block of this version; rule 12: the slice is shorter than the block
 abbrev pub rules : Plan → ℕ → ℕ → List Rule
 rules p version lent = rule 7 (not (writable p version)) ∷ rule 12 (ltb lent (length (block p version))) ∷ []
 

@@ -28,8 +28,8 @@ pub fn number(answer: Writing) -> u8
     }
 }
 
-// The length of a plan's block, from 138 to 1,008, which a slice must have to be written; 0 where rule 7 refuses the plan, or
-// where there is no such version.
+// The length of a plan's block of a version, which a slice must have to be written: 138 to 1,008 in version 1, 174 to 1,059 in
+// version 2. It is 0 where rule 7 refuses the plan, or it has no block of this version.
 pub fn length(plan: Plan, version: u16) -> usize
     ensures { λ r. ⌜ r ≡ block-length plan version ⌝ }
     ensures limits { λ r. ⌜ Limits plan version r ⌝ }
@@ -37,26 +37,26 @@ pub fn length(plan: Plan, version: u16) -> usize
     let y = plan.y;
     let cb = plan.cb;
     let cr = plan.cr;
-    if version != 1 {
-        return 0;
-    }
     if !passes(plan) {
         return 0;
     }
-    24 + section_length(y) + section_length(cb) + section_length(cr) + 12
+    let first = section_length(version, y);
+    let second = section_length(version, cb);
+    let third = section_length(version, cr);
+    if (first == 0) | ((second == 0) | (third == 0)) {
+        return 0;
+    }
+    24 + first + second + third + 12
 }
 
-// Writes the block of a plan from the first byte of a lent slice on. Refused by rule 7, for the plan or a version other than 1, or
-// by rule 12, for a slice that is shorter than the block, in this order, it writes nothing; bytes after the block stay. Its
-// components are taken out of the plan once: a plan is large, and to hand it on is to copy it.
+// Writes the block of a plan in a version from the first byte of a lent slice on. Refused by rule 7, for the plan or because it has
+// no block of this version, or by rule 12, for a slice that is shorter than the block, in this order, it writes nothing; bytes
+// after the block stay. Its components are taken out of the plan once: a plan is large, and to hand it on is to copy it.
 pub fn write(plan: Plan, version: u16, out: &mut [u8]) -> Writing
     ensures answers { λ r. ⌜ says r ≡ answer plan version (length (now (out .entry))) ⌝ }
     ensures writes { λ _. ⌜ now (out .exit) ≡ written plan version (now (out .entry)) ⌝ }
     ensures sized { λ _. ⌜ Sized plan ⌝ }
 {
-    if version != 1 {
-        return Writing::Refused(7);
-    }
     if !passes(plan) {
         return Writing::Refused(7);
     }
@@ -64,17 +64,20 @@ pub fn write(plan: Plan, version: u16, out: &mut [u8]) -> Writing
     let y = plan.y;
     let cb = plan.cb;
     let cr = plan.cr;
-    let first = section_length(y);
-    let second = section_length(cb);
-    let third = section_length(cr);
+    let first = section_length(version, y);
+    let second = section_length(version, cb);
+    let third = section_length(version, cr);
+    if (first == 0) | ((second == 0) | (third == 0)) {
+        return Writing::Refused(7);
+    }
     let size = 24 + first + second + third + 12;
     if out.len() < size {
         return Writing::Refused(12);
     }
     put_header(out, header);
-    put_section(out, 24, header.d, y);
-    put_section(out, 24 + first, header.d, cb);
-    put_section(out, 24 + first + second, header.d, cr);
+    put_section(out, 24, version, header.d, y);
+    put_section(out, 24 + first, version, header.d, cb);
+    put_section(out, 24 + first + second, version, header.d, cr);
     put_trailer(out, first, second, third, version);
     Writing::Written(size)
 }

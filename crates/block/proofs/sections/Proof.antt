@@ -13,7 +13,7 @@ returns c =
     let st : tie.Start = search needs in
     let a : tie.After-part = search needs in
     let e : tie.Then1 = search needs in
-    stop _ _ _ 0 (st .pre .1) _ (a .part .ensures .0) (e .if1 .taken) (c .refused .ensures)
+    stop _ _ _ _ 0 (st .pre .1) _ (a .part .ensures .0) (e .if1 .taken) (c .refused .ensures)
 
 add-refused-2 : tie.Need-add-refused-2
 add-refused-2 c =
@@ -33,7 +33,7 @@ returns-2 c =
     let st = to-start e in
     let b : tie.After-part2 = search needs in
     let f : tie.Then2 = search needs in
-    go _ _ _ 0 (st .pre .1) _ (a .part .ensures .0) (e .if1 .left) (stop _ _ _ 1 (st .pre .1) _ (b .part2 .ensures .0) (f .if2 .taken) (c .refused2 .ensures))
+    go _ _ _ _ 0 (st .pre .1) _ (a .part .ensures .0) (e .if1 .left) (stop _ _ _ _ 1 (st .pre .1) _ (b .part2 .ensures .0) (f .if2 .taken) (c .refused2 .ensures))
 
 abbrev to-else1 : tie.Else2 → tie.Else1
 to-else1 d = search needs
@@ -64,8 +64,8 @@ returns-3 c =
     let fit = to-start (to-else1 f) .pre .1 in
     let d : tie.After-part3 = search needs in
     let g : tie.Then3 = search needs in
-    go _ _ _ 0 fit _ (to-part f .part .ensures .0) (to-else1 f .if1 .left)
-    (go _ _ _ 1 fit _ (to-part2 f .part2 .ensures .0) (f .if2 .left) (stop _ _ _ 2 fit _ (d .part3 .ensures .0) (g .if3 .taken) (c .refused3 .ensures)))
+    go _ _ _ _ 0 fit _ (to-part f .part .ensures .0) (to-else1 f .if1 .left)
+    (go _ _ _ _ 1 fit _ (to-part2 f .part2 .ensures .0) (f .if2 .left) (stop _ _ _ _ 2 fit _ (d .part3 .ensures .0) (g .if3 .taken) (c .refused3 .ensures)))
 
 returns-4 : tie.Need-returns-4
 unfolding sections
@@ -74,8 +74,8 @@ returns-4 c =
     let fit = to-start (to-else1 f) .pre .1 in
     let d : tie.After-part3 = search needs in
     let g : tie.Else3 = search needs in
-    go _ _ _ 0 fit _ (to-part f .part .ensures .0) (to-else1 f .if1 .left)
-    (go _ _ _ 1 fit _ (to-part2 f .part2 .ensures .0) (f .if2 .left) (go _ _ _ 2 fit _ (d .part3 .ensures .0) (g .if3 .left) (rw (c .nameless .ensures))))
+    go _ _ _ _ 0 fit _ (to-part f .part .ensures .0) (to-else1 f .if1 .left)
+    (go _ _ _ _ 1 fit _ (to-part2 f .part2 .ensures .0) (f .if2 .left) (go _ _ _ _ 2 fit _ (d .part3 .ensures .0) (g .if3 .left) (rw (c .nameless .ensures))))
 
 pub sections-spec : {M : Type 1} → statement M
 sections-spec =

@@ -16,6 +16,6 @@ pub record Placed (n t : ℕ) (x : Trailer) : Type 0 where
   pub first : x .d1 < x .d0
   pub second : x .d2 < x .d1
 
--- section k, the bytes from a up to b
-abbrev pub section-at : List ℕ → ℕ → ℕ → Header → ℕ → Found
-section-at bytes a b h k = found (part bytes a b) (under h k (part bytes a b))
+-- section k of a version, the bytes from a up to b
+abbrev pub section-at : List ℕ → ℕ → ℕ → ℕ → Header → ℕ → Found
+section-at bytes a b version h k = found (part bytes a b) (under version h k (part bytes a b))

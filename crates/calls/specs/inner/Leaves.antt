@@ -16,6 +16,9 @@ use Rattle.residual.proofs.finished_table.Reads as finished-table-promise
 use Rattle.residual.proofs.cut_numbers.Reads as cut-numbers-promise
 use Rattle.rule_seven.proofs.is_usable.Reads as is-usable-promise
 use Rattle.plan.proofs.ranges.header_fits.Reads as header-fits-promise
+use Rattle.plan.proofs.versions.is_known.Reads as is-known-promise
+use Rattle.plan.proofs.versions.pieces_carried.Reads as pieces-carried-promise
+use Rattle.plan.proofs.versions.copy_last.Reads as copy-last-promise
 use Rattle.picture.proofs.chroma_size.Reads as chroma-size-promise
 use Rattle.picture.proofs.picture_size.Reads as picture-size-promise
 use Rattle.rules.proofs.refusal_of.Reads as refusal-of-promise
@@ -49,6 +52,9 @@ pub record LeavesSettled : Type 0 where
   pub cut-numbers : OneAnswer cut-numbers-promise.Post
   pub is-usable : OneAnswer is-usable-promise.Post
   pub header-fits : OneAnswer header-fits-promise.Post
+  pub is-known : OneAnswer is-known-promise.Post
+  pub pieces-carried : OneAnswer pieces-carried-promise.Post
+  pub copy-last : OneAnswer copy-last-promise.Post
   pub chroma-size : OneAnswer chroma-size-promise.Post
   pub picture-size : OneAnswer picture-size-promise.Post
   pub refusal-of : OneAnswer refusal-of-promise.Post

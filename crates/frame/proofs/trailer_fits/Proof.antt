@@ -7,7 +7,9 @@ use Rattle.frame.proofs.trailer_fits.Tie as tie
 
 returns : tie.Need-returns
 unfolding trailer-fits
-returns c = rw and-true
+returns c =
+    let k : tie.After-is-known = search needs in
+    rw (k .is-known .ensures, and-true)
 
 pub trailer-fits-spec : {M : Type 1} → statement M
-trailer-fits-spec = tie.close (tie.spec (λ c. search needs) (λ c. search needs) (λ c. search needs) returns)
+trailer-fits-spec = tie.close (tie.spec (λ c. search needs) (λ c. search needs) (λ c. search needs) (λ c κs. search needs) returns)

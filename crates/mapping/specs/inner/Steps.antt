@@ -4,7 +4,7 @@ use Prim.Native.Nat.{ℕ, _+_, _^_, _<_, _≤_}
 use lib.IntN.{ℤ, pos, natAbs}
 use lib.ListN.{getD}
 use Rattle.runs.specs.inner.Loops.{at}
-use Rattle.standard.specs.Mapping.{piece, clamped, poly-sum, cut}
+use Rattle.standard.specs.Mapping.{pivot-idx, clamped, poly-sum, cut}
 use Rattle.plan.specs.declared.Piece.{Piece}
 use Rattle.plan.specs.Rule7.{no-piece}
 
@@ -24,4 +24,4 @@ pub record RowRanges (depth s : ℕ) (row : List ℤ) : Type 0 where
 -- a mapped sample by pivots that are summed up and rows of always three coefficients: those that the order does not use are 0
 unfoldable pub mapped-by : ℕ → ℕ → ℕ → List ℕ → List Piece → ℕ → ℕ
 mapped-by depth d n pivots pieces s =
-    cut d (poly-sum depth (clamped (at pivots 0) (at pivots (n + 1)) s) (coef (row-of pieces (piece (at pivots) n s))) 2)
+    cut d (poly-sum depth (clamped (at pivots 0) (at pivots (n + 1)) s) (coef (row-of pieces (pivot-idx (at pivots) n s))) 2)

@@ -6,6 +6,7 @@ use lib.Dec.{leb}
 use lib.ListN.{length}
 use Rattle.plan.specs.declared.Component.{Component}
 use Rattle.plan.specs.Ranges.{count-fits}
+use Rattle.plan.specs.Versions.{can-carry}
 use Rattle.pen.specs.inner.Putting.{put-at}
 use Rattle.section_writer.specs.Section.{section-bytes}
 
@@ -13,8 +14,12 @@ use Rattle.section_writer.specs.Section.{section-bytes}
 abbrev pub can-write : ℕ → Component → Bool
 can-write d c = leb d 32 && count-fits (c .n)
 
-abbrev pub put-section : List ℕ → ℕ → ℕ → Component → List ℕ
-put-section s at d c = cond (can-write d c) (put-at s at (section-bytes d c)) s
+abbrev pub put-section : List ℕ → ℕ → ℕ → ℕ → Component → List ℕ
+put-section s at version d c = cond (can-write d c) (put-at s at (section-bytes version d c)) s
 
-abbrev pub section-length : Component → ℕ
-section-length c = cond (count-fits (c .n)) (length (section-bytes 0 c)) 0
+-- its length, where the version carries all of the component, and else 0
+abbrev pub has-section : ℕ → Component → Bool
+has-section version c = count-fits (c .n) && can-carry version c
+
+abbrev pub section-length : ℕ → Component → ℕ
+section-length version c = cond (has-section version c) (length (section-bytes version 0 c)) 0

@@ -13,7 +13,7 @@ use Rattle.sections.proofs.read_section.Statement.{statement}
 use Rattle.sections.proofs.read_section.Tie as tie
 
 -- each answer is what the section comes to, and so its place is inside
-answered : (st : tie.Start) {r : Found} → let s = st .args .s .now in let x = found s (under (st .args .h) (st .args .k) s) in r ≡ x → (r ≡ x) × (r .place ≤ length s)
+answered : (st : tie.Start) {r : Found} → let s = st .args .s .now in let x = found s (under (st .args .version) (st .args .h) (st .args .k) s) in r ≡ x → (r ≡ x) × (r .place ≤ length s)
 answered st e = (e, subst (λ (x : Found). x .place ≤ length (st .args .s .now)) (sym e) (place-le _ _))
 
 returns : tie.Need-returns
@@ -22,7 +22,7 @@ returns c =
     let n : tie.After-nameless = search needs in
     let h : tie.After-header-fits = search needs in
     let t : tie.Then1 = search needs in
-    answered st (c .failed .ensures ∙ rw (n .nameless .ensures) (unfit-found _ _ _ (sym (h .header-fits .ensures) ∙ not-true _ (t .if1 .taken))))
+    answered st (c .failed .ensures ∙ rw (n .nameless .ensures) (unfit-found _ _ _ _ (sym (h .header-fits .ensures) ∙ not-true _ (t .if1 .taken))))
 
 section-requires : tie.Need-section-requires
 section-requires c κs =
@@ -36,7 +36,7 @@ returns-2 c =
     let e : tie.Else1 = search needs in
     let r : tie.After-section = search needs in
     let t : tie.Then2 = search needs in
-    answered st (c .failed2 .ensures ∙ stopped-found _ _ _ (sym (h .header-fits .ensures) ∙ not-false _ (e .if1 .left)) (r .section .ensures) (t .if2 .taken))
+    answered st (c .failed2 .ensures ∙ stopped-found _ _ _ _ (sym (h .header-fits .ensures) ∙ not-false _ (e .if1 .left)) (r .section .ensures) (t .if2 .taken))
 
 returns-3 : tie.Need-returns-3
 returns-3 c =
@@ -46,7 +46,7 @@ returns-3 c =
     let e : tie.Else1 = search needs in
     let r : tie.After-section = search needs in
     let f : tie.Else2 = search needs in
-    answered st (rw (n .nameless .ensures) (ended-found _ _ _ (sym (h .header-fits .ensures) ∙ not-false _ (e .if1 .left)) (r .section .ensures) (f .if2 .left)))
+    answered st (rw (n .nameless .ensures) (ended-found _ _ _ _ (sym (h .header-fits .ensures) ∙ not-false _ (e .if1 .left)) (r .section .ensures) (f .if2 .left)))
 
 pub read-section-spec : {M : Type 1} → statement M
 read-section-spec =

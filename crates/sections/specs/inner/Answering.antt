@@ -13,8 +13,8 @@ use Rattle.sections.specs.declared.Found.{Found}
 use Rattle.sections.specs.Sections.{section}
 
 -- a section's ranges are made of the header's numbers: under one that does not fit it is refused 4
-abbrev pub under : Header → ℕ → List ℕ → Read Component
-under h k bytes = cond (header-fits h) (section h k bytes) (refused 4 no-name bytes)
+abbrev pub under : ℕ → Header → ℕ → List ℕ → Read Component
+under version h k bytes = cond (header-fits h) (section version h k bytes) (refused 4 no-name bytes)
 
 -- what a section comes to: its component, or where it failed and a component of zeros
 abbrev pub failed : ℕ → ℕ → Name → Found

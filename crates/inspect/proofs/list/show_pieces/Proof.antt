@@ -4,10 +4,10 @@ use Rattle.inspect.proofs.list.show_pieces.Statement.{statement}
 use Rattle.inspect.proofs.list.show_pieces.Tie as tie
 
 abbrev Inv-loop : tie.InvT-loop
-Inv-loop n d pieces count p₀ p = count ≤ 16
+Inv-loop version n d pieces count p₀ p = count ≤ 17
 
 abbrev μ-loop : tie.MeasureT-loop
-μ-loop n d pieces count p₀ p = count - p
+μ-loop version n d pieces count p₀ p = count - p
 
 pub show-pieces-spec : {M : Type 1} → statement M
 show-pieces-spec =

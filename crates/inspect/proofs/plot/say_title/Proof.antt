@@ -4,10 +4,10 @@ use Rattle.inspect.proofs.plot.say_title.Statement.{statement}
 use Rattle.inspect.proofs.plot.say_title.Tie as tie
 
 abbrev Inv-loop : tie.InvT-loop
-Inv-loop k n table bl last low₀ high₀ code₀ low high code = last ≤ 1023
+Inv-loop k pieces table bl last low₀ high₀ code₀ low high code = last ≤ 1023
 
 abbrev μ-loop : tie.MeasureT-loop
-μ-loop k n table bl last low₀ high₀ code₀ low high code = last + 1 - code
+μ-loop k pieces table bl last low₀ high₀ code₀ low high code = last + 1 - code
 
 pub say-title-spec : {M : Type 1} → statement M
 say-title-spec =
@@ -19,4 +19,4 @@ say-title-spec =
     (λ c κs. search needs) (λ c κs. search needs) (λ c κs. search needs) (λ c. search needs)
     (λ c. search needs) (λ c. search needs) (λ c κs. search needs) (λ c κs. search needs)
     (λ c κs. search needs) (λ c κs. search needs) (λ c κs. search needs) (λ c κs. search needs)
-    (λ c κs. search needs) (λ c. search needs))
+    (λ c. search needs))

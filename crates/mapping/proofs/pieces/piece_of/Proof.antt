@@ -1,9 +1,11 @@
 -- A search that has passed no pivot greater than s. Assumes nothing.
+use mathlib.Core.Path.{_≡_}
 use borrow.Author.Needs.{needs}
 use borrow.Author.Count.{below-more}
 use Prim.Native.Nat.{ℕ, _+_, _-_, _<_, _≤_}
+use native.Mathlib.Nat.{le-antisymm}
 use native.Mathlib.Omega.{arith}
-use Rattle.standard.proofs.Pieces.{is-piece}
+use Rattle.standard.proofs.Pieces.{is-idx}
 use Rattle.runs.specs.inner.Loops.{at}
 use Rattle.mapping.proofs.pieces.piece_of.Statement.{statement}
 use Rattle.mapping.proofs.pieces.piece_of.Tie as tie
@@ -18,7 +20,7 @@ returns : tie.Need-returns Inv-loop μ-loop
 returns c =
     let st : tie.Start Inv-loop μ-loop = search needs in
     let lp : tie.At-loop Inv-loop μ-loop = search needs in
-    (is-piece (at (st .args .pivots .now)) (st .args .n) (st .args .s) (lp .loop .i) (omega arith) (lp .loop .inv .1) (λ q. c .if1 .taken), omega arith)
+    (is-idx (at (st .args .pivots .now)) (st .args .s) (st .args .n) (lp .loop .i) (omega arith) (lp .loop .inv .1) (λ q. c .if1 .taken), omega arith)
 
 loop-again : tie.Need-loop-again Inv-loop μ-loop
 loop-again c =
@@ -29,7 +31,8 @@ returns-2 : tie.Need-returns-2 Inv-loop μ-loop
 returns-2 c =
     let st : tie.Start Inv-loop μ-loop = search needs in
     let lp : tie.At-loop Inv-loop μ-loop = search needs in
-    (is-piece (at (st .args .pivots .now)) (st .args .n) (st .args .s) (lp .loop .i) (omega arith) (lp .loop .inv .1) (λ q. omega arith), omega arith)
+    let e : st .args .n ≡ lp .loop .i = le-antisymm (c .loop-test .left) (lp .loop .inv .0) in
+    (is-idx (at (st .args .pivots .now)) (st .args .s) (st .args .n) (lp .loop .i) (omega arith) (lp .loop .inv .1) (λ q. rw e at (st .pre .1)), omega arith)
 
 pub piece-of-spec : {M : Type 1} → statement M
 piece-of-spec =

@@ -1,51 +1,70 @@
--- `section_length` meets its contract. The loop's invariant: the first p pieces are counted. Assumes nothing.
-use mathlib.Core.Path.{_≡_}
-use Prim.Native.Nat.{_+_, _*_, _-_, _≤_}
-use native.Mathlib.Nat.{le-antisymm}
+-- `section_length` meets its contract. Assumes nothing.
+use mathlib.Core.Path.{sym, _∙_}
+use Prim.Native.Nat.{_-_, _≤_}
 use native.Mathlib.Omega.{arith}
 use borrow.Author.Needs.{needs}
-use lib.ListN.{length, getD}
-use Rattle.plan.specs.Rule7.{no-piece}
-use Rattle.pen.specs.Bytes.{in-turn}
-use Rattle.pen.proofs.Inking.{no-turn}
-use Rattle.section_writer.specs.Section.{piece-bytes}
-use Rattle.section_writer.proofs.Sizes.{counted, too-many, worked-out}
+use borrow.Author.Tests.{not-true, not-false}
+use Rattle.section_writer.proofs.Sizes.{Counted, none-counted, one-counted, all-counted, too-many, not-all, worked-out}
 use Rattle.section_writer.proofs.lengths.section_length.Statement.{statement}
 use Rattle.section_writer.proofs.lengths.section_length.Tie as tie
 
 abbrev Inv-loop : tie.InvT-loop
-Inv-loop c n count size₀ p₀ size p = (p ≤ count + 1) × ((size ≡ 1 + (count + 2) * 2 + 17 + length (in-turn p (λ p. piece-bytes 0 (getD (c .pieces) p no-piece)))) × (size ≤ 100 + p * 1287))
+Inv-loop version c n count carried size₀ p₀ size p = Counted c carried size p
 
 abbrev μ-loop : tie.MeasureT-loop
-μ-loop c n count size₀ p₀ size p = count + 1 - p
+μ-loop version c n count carried size₀ p₀ size p = carried - p
+
+-- ways back
+abbrev to-carried : tie.At-loop Inv-loop μ-loop → tie.After-pieces-carried Inv-loop μ-loop
+to-carried c = search needs
+
+abbrev to-else : tie.After-pieces-carried Inv-loop μ-loop → tie.Else2 Inv-loop μ-loop
+to-else c = search needs
+
+abbrev to-start : tie.Else2 Inv-loop μ-loop → tie.Start Inv-loop μ-loop
+to-start c = search needs
+
+few : (e : tie.Else2 Inv-loop μ-loop) → to-start e .args .t2 .n ≤ 15
+few e = omega arith
 
 returns : tie.Need-returns Inv-loop μ-loop
 returns c =
     let st : tie.Start Inv-loop μ-loop = search needs in
-    (too-many (st .args .t1) (omega arith), omega arith)
-
-loop-holds : tie.Need-loop-holds Inv-loop μ-loop
-loop-holds c =
-    let st : tie.Start Inv-loop μ-loop = search needs in
-    (omega arith, (omega (arith, no-turn (λ p. piece-bytes 0 (getD (st .args .t1 .pieces) p no-piece))), omega arith))
-
-add-size-4 : tie.Need-add-size-4 Inv-loop μ-loop
-add-size-4 c =
-    let l : tie.At-loop Inv-loop μ-loop = search needs in
-    record { fits = omega (arith, l .loop .inv .1 .1, c .piece-length .ensures .1) }
-
-loop-again : tie.Need-loop-again Inv-loop μ-loop
-loop-again c =
-    let st : tie.Start Inv-loop μ-loop = search needs in
-    let l : tie.At-loop Inv-loop μ-loop = search needs in
-    (omega arith, (counted (st .args .t1 .pieces) (l .loop .p) _ (l .loop .inv .1 .0) (c .piece-length .ensures .0), omega (arith, l .loop .inv .1 .1, c .piece-length .ensures .1)))
+    (too-many (st .args .version) (st .args .t2) (omega arith), omega arith)
 
 returns-2 : tie.Need-returns-2 Inv-loop μ-loop
 returns-2 c =
     let st : tie.Start Inv-loop μ-loop = search needs in
+    let k : tie.After-carries Inv-loop μ-loop = search needs in
+    (not-all (st .args .version) (st .args .t2) (omega arith) (sym (k .carries .ensures) ∙ not-true _ (c .if2 .taken)), omega arith)
+
+loop-holds : tie.Need-loop-holds Inv-loop μ-loop
+loop-holds c =
+    let f : tie.After-frame-length Inv-loop μ-loop = search needs in
+    none-counted _ (f .frame-length .ensures)
+
+add-size : tie.Need-add-size Inv-loop μ-loop
+add-size c =
     let l : tie.At-loop Inv-loop μ-loop = search needs in
-    let e : l .loop .p ≡ st .args .t1 .n + 1 = le-antisymm (l .loop .inv .0) (omega arith) in
-    (worked-out (st .args .t1) (omega arith) (rw e at (l .loop .inv .1 .0)), omega (arith, l .loop .inv .1 .1))
+    let m = to-carried l in
+    record { fits = omega (arith, l .loop .inv .small, m .pieces-carried .ensures .1, few (to-else m), c .piece-length .ensures .1) }
+
+loop-again : tie.Need-loop-again Inv-loop μ-loop
+loop-again c =
+    let l : tie.At-loop Inv-loop μ-loop = search needs in
+    let il : tie.In-loop Inv-loop μ-loop = search needs in
+    one-counted (to-start (to-else (to-carried l)) .args .t2) (l .loop .inv) (il .loop-test .taken) (c .piece-length .ensures)
+
+returns-3 : tie.Need-returns-3 Inv-loop μ-loop
+returns-3 c =
+    let l : tie.At-loop Inv-loop μ-loop = search needs in
+    let m = to-carried l in
+    let e = to-else m in
+    let st = to-start e in
+    let k : tie.After-carries Inv-loop μ-loop = search needs in (
+      worked-out (st .args .version) (st .args .t2) (few e) (sym (k .carries .ensures) ∙ not-false _ (e .if2 .left)) (all-counted (st .args .t2) (st .args .version) (l .loop .inv) (c .loop-test .left) (m .pieces-carried .ensures .0)),
+      omega (arith, l .loop .inv .small, l .loop .inv .few, m .pieces-carried .ensures .1, few e),
+    )
 
 pub section-length-spec : {M : Type 1} → statement M
 section-length-spec =
@@ -55,10 +74,13 @@ section-length-spec =
     μ-loop
     returns
     (λ c. search needs) (λ c. search needs) (λ c. search needs) (λ c. search needs) (λ c. search needs)
+    (λ c. search needs) (λ c κs. search needs)
+    returns-2
+    (λ c κs. search needs) (λ c κs. search needs)
     loop-holds
-    (λ c. search needs) (λ c. search needs) (λ c. omega arith) (λ c κs. search needs)
-    add-size-4
+    (λ c. search needs) (λ c. search needs) (λ c κs. search needs)
+    add-size
     (λ c. omega arith)
     (λ c. omega arith)
     loop-again
-    returns-2)
+    returns-3)
