@@ -18,8 +18,8 @@ use Rattle.as_before.specs.VersionOne.{mapped-before-r2, SameSample}
 
 module _ (h : Header) (c : Component) (twice : piece-above c ≡ piece-n c) where
   -- the piece of a sample now, and the one that stood in for it
-  same-piece : (p : ℕ) → p ≤ c .n + 1 → getD (c .pieces) p no-piece ≡ getD (set (c .pieces) (c .n + 1) zero-piece) (min p (c .n)) no-piece
-  same-piece p few =
+  stands-for : (p : ℕ) → p ≤ c .n + 1 → getD (c .pieces) p no-piece ≡ getD (set (c .pieces) (c .n + 1) zero-piece) (min p (c .n)) no-piece
+  stands-for p few =
       ⊎-elim
       (λ e. let m : min p (c .n) ≡ c .n = omega arith in rw m (ap (λ (i : ℕ). getD (c .pieces) i no-piece) e ∙ twice ∙ sym (kept (c .n) (le-refl (c .n)))))
       (λ l. let m : min p (c .n) ≡ p = omega arith in rw m (sym (kept p (omega arith))))
@@ -33,4 +33,4 @@ module _ (h : Header) (c : Component) (twice : piece-above c ≡ piece-n c) wher
   same-sample s =
       let pivot = pivot-value (λ i. getD (c .preds) i 0) in
       let t = clamped (pivot 0) (pivot (c .n + 1)) s in
-      ap (λ (q : Piece). polynomial (h .bl + 8) (h .d) (λ i. getD (q .row) i (pos 0)) (q .order) t) (same-piece (pivot-idx pivot (c .n) s) (idx-le pivot (c .n) s))
+      ap (λ (q : Piece). polynomial (h .bl + 8) (h .d) (λ i. getD (q .row) i (pos 0)) (q .order) t) (stands-for (pivot-idx pivot (c .n) s) (idx-le pivot (c .n) s))

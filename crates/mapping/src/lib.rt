@@ -40,7 +40,7 @@ pub fn mapped_table(h: Header, c: Component) -> [u16; 1024]
         table[s as usize] = map_step(depth, d, t, row);
         s += 1;
     }
-    // No pivot is greater than the codes that are left.
+    // No pivot is greater than the codes that are left: they take piece n + 1, at the last pivot.
     let above = pieces[n + 1];
     let row = above.row;
     while s < codes {

@@ -37,6 +37,10 @@ same-piece a b =
     eqb (a .idc) (b .idc)
     && (eqb (a .order) (b .order) && every row-places (λ i. same-number (getD (a .row) i (pos 0)) (getD (b .row) i (pos 0))))
 
--- all that is used of a component can be carried: by version 2 always, by version 1 where piece n stands twice
+-- all pieces up to n + 1 can be carried, of which the last two are given: by version 2 always, by version 1 where piece n stands twice
+abbrev pub carries : ℕ → Piece → Piece → Bool
+carries version last above = eqb version 2 || (eqb version 1 && same-piece last above)
+
+-- so all that is used of a component can be carried
 abbrev pub can-carry : ℕ → Component → Bool
-can-carry version c = eqb version 2 || (eqb version 1 && same-piece (getD (c .pieces) (c .n) no-piece) (getD (c .pieces) (c .n + 1) no-piece))
+can-carry version c = carries version (getD (c .pieces) (c .n) no-piece) (getD (c .pieces) (c .n + 1) no-piece)

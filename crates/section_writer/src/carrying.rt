@@ -1,9 +1,7 @@
 // Whether a version carries all pieces of a component.
 use plan::Piece;
 ghost use mathlib.Core.Path.{_≡_};
-ghost use mathlib.Core.Bool.{_&&_, _||_};
-ghost use lib.Dec.{eqb};
-ghost use Rattle.plan.specs.Versions.{same-number, same-piece};
+ghost use Rattle.plan.specs.Versions.{same-number, same-piece, carries};
 
 fn equal(x: i64, y: i64) -> bool
     ensures { λ r. ⌜ r ≡ same-number x y ⌝ }
@@ -21,8 +19,8 @@ fn is_same(a: Piece, b: Piece) -> bool
 }
 
 // Of all pieces the last two are handed over: version 2 carries them all, and version 1 where piece n stands twice.
-pub(crate) fn carries(version: u16, n: Piece, above: Piece) -> bool
-    ensures { λ r. ⌜ r ≡ (eqb version 2 || (eqb version 1 && same-piece n above)) ⌝ }
+pub(crate) fn carries(version: u16, last: Piece, above: Piece) -> bool
+    ensures { λ r. ⌜ r ≡ carries version last above ⌝ }
 {
-    (version == 2) | ((version == 1) & is_same(n, above))
+    (version == 2) | ((version == 1) & is_same(last, above))
 }

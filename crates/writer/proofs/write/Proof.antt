@@ -109,29 +109,25 @@ returns-3 c =
 put-trailer-requires : tie.Need-put-trailer-requires
 put-trailer-requires c κs =
     let w : tie.After-put-section3 = search needs in
-    let v = to-v w in
-    let u = to-u v in
-    let h = to-header u in
+    let h = to-header (to-u (to-v w)) in
     let e = to-room h in
     let z = to-sizes e in
     let p = given z .args .plan in
     let n = given z .args .version in (
       (its-length p n (y-carried p n (writes e)) (first z) .1, (its-length p n (cb-carried p n (writes e)) (second z) .1, its-length p n (cr-carried p n (writes e)) (third z) .1)),
-      trailer-room p n (writes e) (first z) (second z) (third z) (fits h) (headed h) (u .put-section .ensures) (v .put-section2 .ensures) (w .put-section3 .ensures),
+      trailer-room p n (writes e) (first z) (second z) (third z) (fits h) (headed h) (to-u (to-v w) .put-section .ensures) (to-v w .put-section2 .ensures) (w .put-section3 .ensures),
     )
 
 returns-4 : tie.Need-returns-4
 returns-4 c =
     let t : tie.After-put-trailer = search needs in
     let w : tie.After-put-section3 = search needs in
-    let v = to-v w in
-    let u = to-u v in
-    let h = to-header u in
+    let h = to-header (to-u (to-v w)) in
     let e = to-room h in
     let z = to-sizes e in
     let st = given z in
     let room : length (block (st .args .plan) (st .args .version)) ≤ length (st .args .out .now) = fits h in
-    let made = made-block (st .args .plan) (st .args .version) (writes e) (first z) (second z) (third z) room (headed h) (u .put-section .ensures) (v .put-section2 .ensures) (w .put-section3 .ensures) (t .put-trailer .ensures) in
+    let made = made-block (st .args .plan) (st .args .version) (writes e) (first z) (second z) (third z) room (headed h) (to-u (to-v w) .put-section .ensures) (to-v w .put-section2 .ensures) (w .put-section3 .ensures) (t .put-trailer .ensures) in
     let r = accepted (st .args .plan) (st .args .version) (st .args .out .now) (writes e) room (sum e) made in
     (r .0, (r .1, handed st))
 
