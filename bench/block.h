@@ -3,10 +3,9 @@
 #define BLOCK_H
 #include "job.h"
 
-/* The proved writer: 0, or the refusal's number. `against` links it twice. */
-#define PROVED_WRITE(name) uint8_t name(Plan plan, uint16_t version, uint8_t *out, size_t out_len)
-PROVED_WRITE(speed_write);
-PROVED_WRITE(speed_write_before);
+/* The proved writer: 0, or the refusal's number. `against` links it twice, as it does the job. */
+#define PROVED_WRITE(name, Plan) uint8_t name(Plan plan, uint16_t version, uint8_t *out, size_t out_len)
+PROVED_WRITE(speed_write, Plan);
 
 /* The same in C: write.c, once a compiler. */
 #define WRITE(name) uint8_t name(const Plan *plan, uint16_t version, uint8_t *out, size_t out_len)

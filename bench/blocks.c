@@ -4,42 +4,54 @@
 #include <stdlib.h>
 #include <string.h>
 
-enum { ROUNDS = 20000, ROOM = 1280 };
+enum { ROUNDS = 20000, ROOM = 8192 };
 
 static uint8_t room[ROOM];
 
-/* every piece of order 1, or of order 2 */
+/* a block, by its plan, and its lengths by version */
+typedef struct {
+    Kind kind;
+    int order; /* of the polynomials */
+    size_t lengths[2];
+} Block;
+
+static const Block blocks[] = {{{"shortest", 1, 1, 0, 0}, 1, {138, 174}},
+                               {{"longest of polynomials", 16, 16, 0, 0}, 2, {1008, 1059}},
+                               {{"longest", 16, 16, 3, 0}, 2, {6160, 6533}}};
+
 static void with_order(Component *c, int order)
 {
     for (int p = 0; p < c->n + 2; p++) {
+        if (c->pieces[p].idc == MMR)
+            continue;
         c->pieces[p].order = (uint8_t)(order - 1);
         c->pieces[p].row[2] = order == 2 ? 50000 : 0;
     }
 }
 
-/* a plan for this version: version 1 has its last piece twice */
-static Plan plan_for(uint16_t version, int pieces, int order)
+/* the plan of a block of this version: version 1 has its last piece twice */
+static Plan plan_for(const Block *block, uint16_t version)
 {
-    Plan plan = plan_of(pieces, 1);
+    Plan plan = plan_of(&block->kind, 1);
     Component *components[] = {&plan.y, &plan.cb, &plan.cr};
     for (int k = 0; k < 3; k++) {
         Component *c = components[k];
-        with_order(c, order);
+        with_order(c, block->order);
         if (version == 1)
             c->pieces[c->n + 1] = c->pieces[c->n];
     }
     return plan;
 }
 
-void each_block(void (*show)(const char *name, const Plan *plan, uint16_t version, size_t length))
+void each_block(int mmr, void (*show)(const char *name, const Plan *plan, uint16_t version, size_t length))
 {
-    static const size_t shortest[] = {138, 174}, longest[] = {1008, 1059};
-    for (uint16_t version = 1; version <= 2; version++) {
-        Plan plan = plan_for(version, 1, 1);
-        show("shortest", &plan, version, shortest[version - 1]);
-        plan = plan_for(version, 16, 2);
-        show("longest", &plan, version, longest[version - 1]);
-    }
+    for (uint16_t version = 1; version <= 2; version++)
+        for (size_t k = 0; k < sizeof blocks / sizeof blocks[0]; k++) {
+            if (blocks[k].kind.order != 0 && !mmr)
+                continue;
+            Plan plan = plan_for(&blocks[k], version);
+            show(blocks[k].kind.name, &plan, version, blocks[k].lengths[version - 1]);
+        }
 }
 
 static void held(int good, const char *what)

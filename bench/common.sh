@@ -9,13 +9,14 @@ mkdir -p "$out"
 machine=$(uname -m)
 warnings="-std=c11 -Wall -Wextra"
 
-# a limit of the picture, from the one place in the code where it stands
+# limit NAME [FOLDER]: a limit of the repository there, or of this one, from the one place in the code where it stands
 limit() {
-  sed -n "s/^pub const $1: u16 = \([0-9]*\);.*/\1/p" crates/plan/src/*.rt | grep . ||
-    { echo "bench: no file of crates/plan/src has 'pub const $1: u16 = ...;'" >&2; return 1; }
+  sed -n "s/^pub const $1: [a-z0-9]* = \([0-9]*\);.*/\1/p" "${2:-.}"/crates/plan/src/*.rt | grep . ||
+    { echo "bench: no file of crates/plan/src has 'pub const $1: ... = ...;'" >&2; return 1; }
 }
 columns=$(limit MOST_COLUMNS)
 pairs=$(limit MOST_PAIRS)
+limits="-DMOST_COLUMNS=$columns -DMOST_PAIRS=$pairs"
 
 # a kit of links whose clang keeps the module that it is handed
 kit=$(cd "$(dirname "$(rt doc)")/.." && pwd -P)
@@ -60,6 +61,6 @@ harness() {
   name=$1
   shift
   for part in "$@"; do objcopy --set-section-alignment '.text*=4096' "$part"; done
-  gcc -O2 $warnings -DMOST_COLUMNS="$columns" -DMOST_PAIRS="$pairs" bench/picture.c bench/measure.c bench/rows.c \
-    bench/blocks.c "bench/$name.c" "$@" -o "$out/$name"
+  gcc -O2 $warnings $limits bench/picture.c bench/measure.c bench/rows.c bench/blocks.c "bench/$name.c" "$@" \
+    -o "$out/$name"
 }

@@ -4,15 +4,22 @@
 #include <stddef.h>
 #include <stdint.h>
 
+/* the places of a plan's arrays */
+enum { PIVOTS = 17, PIECES = 17, ROW = 22 };
+
+/* mapping_idc */
+enum { POLYNOMIAL, MMR };
+
 typedef struct {
     uint8_t profile, level, d, bl, el, hdr, disabled;
     uint16_t columns, pairs, brightest;
     uint32_t darkest;
 } Header;
 
+/* the order is less 1; a row has a polynomial's coefficients, or the MMR constant and then its coefficients */
 typedef struct {
     uint8_t idc, order;
-    int64_t row[3];
+    int64_t row[ROW];
 } Piece;
 
 typedef struct {
@@ -22,8 +29,8 @@ typedef struct {
 
 typedef struct {
     uint8_t n;
-    uint16_t preds[17];
-    Piece pieces[17];
+    uint16_t preds[PIVOTS];
+    Piece pieces[PIECES];
     Nlq nlq;
 } Component;
 
@@ -32,13 +39,13 @@ typedef struct {
     Component y, cb, cr;
 } Plan;
 
-/* The proved row job: 0, or the refusal's number. A slice is a pointer, then a length. `against` links it twice. */
-#define PROVED_JOB(name)                                                                              \
+/* The proved row job: 0, or the refusal's number. A slice is a pointer, then a length. `against` links it twice, and
+   before.h has the other's plan. */
+#define PROVED_JOB(name, Plan)                                                                        \
     uint8_t name(Plan plan, uint32_t open_ticket, uint32_t ticket, size_t first, size_t count,        \
                  const uint16_t *base, size_t base_len, const uint16_t *enhancement, size_t enhancement_len, \
                  uint16_t *output, size_t output_len, uint8_t *marks, size_t marks_len)
-PROVED_JOB(speed_job);
-PROVED_JOB(speed_job_before);
+PROVED_JOB(speed_job, Plan);
 
 /* The same job in C: clause.c and tables.c, once a compiler. They have no tickets and no marks, so the proved side does
    a little more. */

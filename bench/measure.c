@@ -17,6 +17,17 @@ static void picture(Way *way, const Plan *plan, size_t step)
         }
 }
 
+/* Whether more than half of the chroma samples are within the ends of their range. Where most of them are cut a time
+   says little. */
+static int mostly_within(const Plan *plan)
+{
+    const uint16_t most = (uint16_t)((1u << (plan->header.hdr + 8)) - 1);
+    size_t chroma = 4 * columns * pairs, within = 0;
+    for (size_t i = chroma; i < size; i++)
+        within += 0 < output[i] && output[i] < most;
+    return 2 * within > size - chroma;
+}
+
 void compare(Way *const ways[], int n, const Plan *plan, size_t step)
 {
     static uint16_t expected[MOST];
@@ -29,6 +40,10 @@ void compare(Way *const ways[], int n, const Plan *plan, size_t step)
             fprintf(stderr, "bench: the outputs differ\n");
             exit(1);
         }
+    }
+    if (!mostly_within(plan)) {
+        fprintf(stderr, "bench: most samples are cut\n");
+        exit(1);
     }
 }
 

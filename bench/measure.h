@@ -6,7 +6,8 @@ typedef uint8_t Way(const Plan *plan, size_t first, size_t count);
 extern uint16_t output[MOST];
 extern uint8_t marks[MOST_PAIRS];
 
-/* ends the process where two ways leave different outputs; `step` is the number of row pairs of a job */
+/* ends the process where two ways leave different outputs, or most samples are cut; `step` is the number of row pairs
+   of a job */
 void compare(Way *const ways[], int n, const Plan *plan, size_t step);
 
 /* the nanoseconds a sample of each way in each of the interleaved runs */

@@ -1,4 +1,4 @@
-/* The picture at hand: its size, its samples, and a plan for it. */
+/* The picture at hand: its size, its samples, and plans for it. */
 #include "job.h"
 
 /* the most that W/2 and H/2 may be, which `common.sh` reads from the code */
@@ -11,4 +11,18 @@ extern size_t columns, pairs, size;
 extern uint16_t base[MOST], enhancement[MOST];
 
 void fill(size_t half_width, size_t half_height, int smooth);
-Plan plan_of(int pieces, int enhanced);
+
+/* How a plan maps, and what a table calls it. Luma has polynomials; Cb and Cr have them too where `order` is 0, or MMR
+   of that order, or, where it is MIXED, polynomials and MMR of each order in turn. */
+typedef struct {
+    const char *name;
+    int luma, chroma; /* how many pieces, but for the one above the last pivot */
+    int order;
+    int wide; /* two MMR coefficients are beyond 2^38, up to which the proved code has one product for a term */
+} Kind;
+enum { MIXED = 4 };
+
+enum { POLYNOMIALS = 3, MMRS = 5 };
+extern const Kind polynomials[POLYNOMIALS], mmrs[MMRS];
+
+Plan plan_of(const Kind *kind, int enhanced);

@@ -32,13 +32,16 @@ C_WAY(clause_clang)
 enum { COPY, PROVED, TABLES, CLAUSE = TABLES + 2, WAYS = CLAUSE + 2 };
 static Way *const ways[WAYS] = {copy, proved, by_tables_gcc, by_tables_clang, by_clause_gcc, by_clause_clang};
 
-/* the medians of the first n ways, after the outputs were compared */
-static void medians(int n, int pieces, int enhanced, size_t step, double t[n])
+/* where chroma has MMR, which the tables do not do */
+enum { MMR_CLAUSE = PROVED + 1, MMR_WAYS = MMR_CLAUSE + 2 };
+static Way *const mmr_ways[MMR_WAYS] = {copy, proved, by_clause_gcc, by_clause_clang};
+
+/* the medians of the first n of some ways, of which the copy is one, after the others' outputs were compared */
+static void medians(Way *const some[], int n, const Plan *plan, size_t step, double t[n])
 {
-    Plan plan = plan_of(pieces, enhanced);
     double times[n][RUNS];
-    compare(ways + PROVED, n - PROVED, &plan, step);
-    measure(ways, n, RUNS, &plan, step, times);
+    compare(some + PROVED, n - PROVED, plan, step);
+    measure(some, n, RUNS, plan, step, times);
     for (int w = 0; w < n; w++)
         t[w] = median(times[w], RUNS);
 }
@@ -49,17 +52,25 @@ static double better(const double t[2])
     return t[0] < t[1] ? t[0] : t[1];
 }
 
-static void against_c(int pieces, int enhanced, size_t step)
+static void against_c(const Plan *plan, size_t step)
 {
     double t[WAYS];
-    medians(WAYS, pieces, enhanced, step, t);
+    medians(ways, WAYS, plan, step, t);
     printf("| %.2f | %.2f | %.2f | %.2f | %.2f | %.2f |\n", t[PROVED], better(t + CLAUSE), better(t + TABLES), t[COPY],
            t[PROVED] / better(t + CLAUSE), t[PROVED] / better(t + TABLES));
+}
+
+static void against_clause(const Plan *plan, size_t step)
+{
+    double t[MMR_WAYS];
+    medians(mmr_ways, MMR_WAYS, plan, step, t);
+    printf("| %.2f | %.2f | %.2f |\n", t[PROVED], better(t + MMR_CLAUSE), t[PROVED] / better(t + MMR_CLAUSE));
 }
 
 /* whether the time a sample grows with the picture: whole pictures, smooth, 8 pieces */
 static void by_picture(void)
 {
+    const Kind *kind = &polynomials[1];
     static const size_t half[][2] = {{240, 136}, {480, 270}, {960, 540}, {1920, 1080}, {MOST_COLUMNS, MOST_PAIRS}};
     printf("\nWhole pictures of several sizes, smooth samples, 8 pieces:\n\n"
            "| picture | proved | table C | proved, enhancement | table C, enhancement | memcpy |\n"
@@ -67,8 +78,10 @@ static void by_picture(void)
     for (size_t k = 0; k < sizeof half / sizeof half[0]; k++) {
         double plain[CLAUSE], enhanced[CLAUSE];
         fill(half[k][0], half[k][1], 1);
-        medians(CLAUSE, 8, 0, pairs, plain);
-        medians(CLAUSE, 8, 1, pairs, enhanced);
+        Plan plan = plan_of(kind, 0);
+        medians(ways, CLAUSE, &plan, pairs, plain);
+        plan = plan_of(kind, 1);
+        medians(ways, CLAUSE, &plan, pairs, enhanced);
         printf("| %zu x %zu | %.2f | %.2f | %.2f | %.2f | %.2f |\n", 2 * columns, 2 * pairs, plain[PROVED],
                better(plain + TABLES), enhanced[PROVED], better(enhanced + TABLES), plain[COPY]);
         fflush(stdout);
@@ -97,11 +110,15 @@ int main(void)
            "| samples | jobs | pieces | enhancement | proved | clause C | table C | memcpy | proved / clause C "
            "| proved / table C |\n|---|---|---|---|---|---|---|---|---|---|\n",
            RUNS);
-    each_row(1920, 1080, against_c);
+    each_row(1920, 1080, polynomials, POLYNOMIALS, against_c);
     by_picture();
+    printf("\nNanoseconds a sample where Cb and Cr are mapped by MMR and luma by 8 polynomials; 1920 x 1080:\n\n"
+           "| samples | jobs | Cb and Cr | enhancement | proved | clause C | proved / clause C |\n"
+           "|---|---|---|---|---|---|---|\n");
+    each_row(960, 540, mmrs, MMRS, against_clause);
     printf("\nNanoseconds a block that is written, medians of %d interleaved runs:\n\n"
            "| block | version | bytes | proved | C | proved / C |\n|---|---|---|---|---|---|\n",
            RUNS);
-    each_block(block_row);
+    each_block(1, block_row);
     return 0;
 }

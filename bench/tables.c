@@ -1,7 +1,7 @@
 /* The fastest C that was found for the job of clause.c: the second yardstick. What each code of a component comes to is
-   worked out once a job and then looked up, as the proved code does. It trusts the plan (rule 7 is not tested here) and
-   tests lengths, row pairs and samples. Tried and slower: clamps in place of the cuts (clang branches on them), sums
-   shifted in one pass and clamped in another, four codes a load, samples joined to one store. */
+   worked out once a job and then looked up, as the proved code does. It does no MMR. It trusts the plan (rule 7 is not
+   tested here) and tests lengths, row pairs and samples. Tried and slower: clamps in place of the cuts (clang branches
+   on them), sums shifted in one pass and clamped in another, four codes a load, samples joined to one store. */
 #include "job.h"
 #include <string.h>
 

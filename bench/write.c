@@ -1,12 +1,13 @@
 /* Writing a composing block in plain C, as a careful engineer would write it: the yardstick of the proved writer.
    It tests the plan (rule 7) and the room (rule 12) before it writes a byte. */
 #include "block.h"
+#include <string.h>
 
 #ifndef NAME
 #error "compile with -DNAME=write_gcc or -DNAME=write_clang"
 #endif
 
-enum { PIVOTS = 17, PIECES = 17, HEADER = 24, TRAILER = 12 };
+enum { HEADER = 24, TRAILER = 12 };
 
 static int header_fits(const Header *h)
 {
@@ -16,23 +17,38 @@ static int header_fits(const Header *h)
            h->darkest < 10000u * h->brightest;
 }
 
-static int coefficient_fits(int64_t z, int d)
+/* how many places of a row a piece uses */
+static int used(const Piece *q)
 {
-    return z >= -((int64_t)64 << d) && z < (int64_t)64 << d;
+    return q->idc == MMR ? 1 + 7 * (q->order + 1) : q->order + 2;
 }
 
-static int piece_fits(const Piece *q, int d)
+static int row_fits(const Piece *q, int d)
 {
-    return q->idc == 0 && q->order <= 1 && coefficient_fits(q->row[0], d) && coefficient_fits(q->row[1], d) &&
-           (q->order == 1 ? coefficient_fits(q->row[2], d) : q->row[2] == 0);
+    const int64_t end = (int64_t)(q->idc == MMR ? 65536 : 64) << d;
+    int64_t rest = 0;
+    int i = 0, inside = 1;
+    for (; i < used(q); i++)
+        inside &= q->row[i] >= -end && q->row[i] < end;
+    for (; i < ROW; i++)
+        rest |= q->row[i];
+    return inside && rest == 0;
+}
+
+static int piece_fits(const Piece *q, int most_idc, int d)
+{
+    return q->idc <= most_idc && q->order <= (q->idc == MMR ? 2 : 1) && row_fits(q, d);
 }
 
 static int piece_is_zero(const Piece *q)
 {
-    return (q->idc | q->order) == 0 && (q->row[0] | q->row[1] | q->row[2]) == 0;
+    int64_t all = q->idc | q->order;
+    for (int i = 0; i < ROW; i++)
+        all |= q->row[i];
+    return all == 0;
 }
 
-static int component_fits(const Component *c, const Header *h)
+static int component_fits(const Component *c, int most_idc, const Header *h)
 {
     const uint64_t end = (uint64_t)2 << h->d;
     const Nlq *q = &c->nlq;
@@ -42,7 +58,7 @@ static int component_fits(const Component *c, const Header *h)
         if (i < c->n + 2 ? c->preds[i] >> (h->bl + 8) != 0 : c->preds[i] != 0)
             return 0;
     for (int p = 0; p < PIECES; p++)
-        if (!(p < c->n + 2 ? piece_fits(&c->pieces[p], h->d) : piece_is_zero(&c->pieces[p])))
+        if (!(p < c->n + 2 ? piece_fits(&c->pieces[p], most_idc, h->d) : piece_is_zero(&c->pieces[p])))
             return 0;
     return 1;
 }
@@ -51,8 +67,8 @@ static int component_fits(const Component *c, const Header *h)
 static int carries(uint16_t version, const Component *c)
 {
     const Piece *q = &c->pieces[c->n], *r = q + 1;
-    return version == 2 || (version == 1 && q->idc == r->idc && q->order == r->order && q->row[0] == r->row[0] &&
-                            q->row[1] == r->row[1] && q->row[2] == r->row[2]);
+    return version == 2 || (version == 1 && q->idc == r->idc && q->order == r->order &&
+                            memcmp(q->row, r->row, sizeof q->row) == 0);
 }
 
 static int pieces_carried(uint16_t version, const Component *c)
@@ -60,11 +76,17 @@ static int pieces_carried(uint16_t version, const Component *c)
     return c->n + version;
 }
 
+/* of a coefficient */
+static size_t integer_bytes(const Piece *q)
+{
+    return q->idc == MMR ? 4 : 1;
+}
+
 static size_t section_length(uint16_t version, const Component *c)
 {
     size_t bytes = 1 + 2 * (c->n + 2u) + 2 + 3 * 5;
     for (int p = 0; p < pieces_carried(version, c); p++)
-        bytes += 2 + 5 * (c->pieces[p].order + 2u);
+        bytes += 2 + (size_t)used(&c->pieces[p]) * (integer_bytes(&c->pieces[p]) + 4);
     return bytes;
 }
 
@@ -81,10 +103,30 @@ static uint8_t *put_32(uint8_t *at, uint32_t v)
 }
 
 /* the integer part rounds down, and the fraction adds upward */
+static uint8_t *put_fraction(uint8_t *at, int64_t z, int d)
+{
+    return put_32(at, (uint32_t)(z & (((int64_t)1 << d) - 1)));
+}
+
 static uint8_t *put_fixed(uint8_t *at, int64_t z, int d)
 {
     *at = (uint8_t)(z >> d);
-    return put_32(at + 1, (uint32_t)(z & (((int64_t)1 << d) - 1)));
+    return put_fraction(at + 1, z, d);
+}
+
+/* the same with an integer part of 4 bytes */
+static uint8_t *put_long_fixed(uint8_t *at, int64_t z, int d)
+{
+    return put_fraction(put_32(at, (uint32_t)(z >> d)), z, d);
+}
+
+static uint8_t *put_piece(uint8_t *at, const Piece *q, int d)
+{
+    *at++ = q->idc;
+    *at++ = q->order;
+    for (int i = 0; i < used(q); i++)
+        at = q->idc == MMR ? put_long_fixed(at, q->row[i], d) : put_fixed(at, q->row[i], d);
+    return at;
 }
 
 static uint8_t *put_header(uint8_t *at, const Header *h)
@@ -101,13 +143,8 @@ static uint8_t *put_section(uint8_t *at, uint16_t version, const Component *c, i
     *at++ = c->n;
     for (int i = 0; i < c->n + 2; i++)
         at = put_16(at, c->preds[i]);
-    for (int p = 0; p < pieces_carried(version, c); p++) {
-        const Piece *q = &c->pieces[p];
-        *at++ = q->idc;
-        *at++ = q->order;
-        for (int i = 0; i < q->order + 2; i++)
-            at = put_fixed(at, q->row[i], d);
-    }
+    for (int p = 0; p < pieces_carried(version, c); p++)
+        at = put_piece(at, &c->pieces[p], d);
     at = put_16(at, c->nlq.offset);
     at = put_fixed(at, (int64_t)c->nlq.maximum, d);
     at = put_fixed(at, (int64_t)c->nlq.slope, d);
@@ -117,8 +154,8 @@ static uint8_t *put_section(uint8_t *at, uint16_t version, const Component *c, i
 WRITE(NAME)
 {
     const Header *h = &plan->header;
-    if (!header_fits(h) || !component_fits(&plan->y, h) || !component_fits(&plan->cb, h) ||
-        !component_fits(&plan->cr, h))
+    if (!header_fits(h) || !component_fits(&plan->y, POLYNOMIAL, h) || !component_fits(&plan->cb, MMR, h) ||
+        !component_fits(&plan->cr, MMR, h))
         return 7;
     if (!carries(version, &plan->y) || !carries(version, &plan->cb) || !carries(version, &plan->cr))
         return 7;

@@ -17,7 +17,7 @@ import nights
 import places
 import plan_text
 import writer
-from composer import Plan, map_sample
+from composer import Plan, map_place
 
 NO_RUN = 255        # the place of an enhancement run that is not present
 GUARD = 16          # bytes on each side of the slice that is lent to the writer
@@ -86,7 +86,7 @@ def _sample_answer(stream):
     return sample_line(plan, stream.u16(), stream.u16(), stream.samples(), stream.samples())
 
 
-def sample_line(plan, first, count, base, enhancement, mapping=map_sample):
+def sample_line(plan, first, count, base, enhancement, mapping=map_place):
     output = untouched_output(plan.picture_samples)
     number, composed = jobs.job(plan, first, count, base, enhancement, output, mapping)
     if number != 0:
@@ -194,7 +194,7 @@ def fnv_1a(data):
     """The check sum of Fowler, Noll and Vo, in 32 bits: no change of one byte keeps it."""
     total = 2166136261
     for byte in data:
-        total = (total ^ byte) * 16777619 % (1 << 32)
+        total = (total ^ byte) * 16777619 & 0xffffffff
     return total
 
 

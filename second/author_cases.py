@@ -13,6 +13,7 @@ import limits
 import plan_text
 from composer import Plan
 from generator import Generator
+from sample_cases import set_piece
 
 # `shows` stands in the line that says why nothing is written or shown; it is None where all is well.
 Group = namedtuple("Group", "first second shows")
@@ -43,6 +44,23 @@ def second_lines():
 
 
 SECOND_LINES = second_lines()
+
+
+def mmr_lines():
+    """The same with MMR in chroma: of the first order in Cb, of the second in Cr, each number another one."""
+    out, order = [], 0
+    for line in LINES:
+        chroma = "component 1" in out
+        if chroma and line.startswith("mapping_idc"):
+            out += ["mapping_idc 1", "mmr_order_minus1 %d" % order, "mmr_constant 0 4194304"]
+            out += ["mmr_coef %d %d" % (i % 4 - 2, 1000 * i + order) for i in range(limits.MMR_TERMS * (order + 1))]
+            order += 1
+        elif not (chroma and line.startswith("poly_")):
+            out.append(line)
+    return out
+
+
+MMR_LINES = mmr_lines()
 
 
 def joined(lines):
@@ -82,13 +100,14 @@ def end_plan(at):
                 half_height=limits.HALF_HEIGHTS[at],
                 max_display_mastering_luminance=limits.LUMINANCES[1:][at])      # above 0 something is darker
     plan.min_display_mastering_luminance = limits.darkest(plan.max_display_mastering_luminance)[at]
-    n, order, d = limits.N[at], limits.ORDERS[at], plan.coefficient_log2_denom
+    n, d = limits.N[at], plan.coefficient_log2_denom
     for cmp in range(3):
         plan.num_pivots_minus2[cmp] = n
         plan.pred_pivot_value[cmp][:limits.pivots(n)] = [limits.samples(depth)[at]] * limits.pivots(n)
+        idc = limits.methods(cmp)[at]
+        count = limits.coefs(limits.orders(idc)[at], idc)
         for piece in range(limits.pieces(n)):
-            plan.poly_order_minus1[cmp][piece] = order
-            plan.fp_poly_coef[cmp][piece][:limits.coefs(order)] = [limits.coefficients(d)[at]] * limits.coefs(order)
+            set_piece(plan, cmp, piece, [limits.coefficients(d, idc)[at]] * count)
         plan.nlq_offset[cmp] = limits.samples(depth)[at]
         for name in plan_text.NLQ_NUMBERS:
             getattr(plan, "fp_" + name)[cmp] = limits.nlq_numbers(d)[at]
@@ -100,8 +119,9 @@ def longest_plan():
     plan = end_plan(-1)
     d = plan.coefficient_log2_denom
     for cmp in range(3):
-        for row in plan.fp_poly_coef[cmp]:
-            row[:] = [limits.coefficients(d)[limits.fractions(d)[-1]]] * len(row)
+        for piece, idc in enumerate(plan.mapping_idc[cmp]):
+            count = limits.coefs(plan.order_minus1[cmp][piece], idc)
+            set_piece(plan, cmp, piece, [limits.coefficients(d, idc)[limits.fractions(d)[-1]]] * count)
     plan.disable_residual_flag = 0
     return plan
 
@@ -117,11 +137,19 @@ def good_texts():
         "least_two": plan_text.text_of(end_plan(0), 2),             # its last pieces are alike
         "longest_two": plan_text.text_of(longest_plan(), 2),
         "middle_two": middle_text(2),
+        "mmr": joined(MMR_LINES),
+        "mixed": mixed_text(1),
+        "mixed_two": mixed_text(2),
     }
 
 
 def middle_text(version):
     return plan_text.text_of(block_cases.middle_plan(Generator(501), version), version)
+
+
+def mixed_text(version):
+    """Both methods in one component."""
+    return plan_text.text_of(block_cases.mixed_plan(10, 23, Generator(502), version), version)
 
 
 # Texts of a wrong form ------------------------------------------------------
@@ -166,6 +194,50 @@ def large_cases():
         "large_integer": (begun(19, "poly_coef 128 0"), "line 19: " + large("128", "poly_coef", -128, 127)),
         "small_integer": (begun(19, "poly_coef -129 0"), "line 19: " + large("-129", "poly_coef", -128, 127)),
         "digits": (begun(10, "H/2 " + digits), "line 10: " + large(digits, "H/2", 0, 65535)),
+    }
+
+
+def mmr_cases():
+    """Of the text with MMR pieces: line 29 has mapping_idc of Cb, 30 the order, 31 the constant, 32 to 38 the rest."""
+    long = "9" * 3000
+
+    def at(line, new, *found):
+        return begun(line, new, MMR_LINES), "line %d: " % line + found[0] % found[1:]
+
+    def expected(line, new, name):
+        return at(line, new, "%s is expected", name)
+
+    def large(line, name, integer):
+        return at(line, "%s %s 0" % (name, integer), "%s does not fit %s, which holds -2147483648 to 2147483647",
+                  integer, name)
+    spaces = "one space and a number of %s are expected"
+    return {
+        "mmr_poly_order": expected(30, "poly_order_minus1 0", "mmr_order_minus1"),
+        "mmr_no_order": expected(30, "mmr_constant 0 0", "mmr_order_minus1"),
+        "mmr_poly_coef": expected(31, "poly_coef 0 0", "mmr_constant"),
+        "mmr_no_constant": expected(31, "mmr_coef 0 0", "mmr_constant"),
+        "mmr_two_constants": expected(32, "mmr_constant 0 0", "mmr_coef"),
+        "mmr_coef_missing": expected(38, "nlq_offset 512", "mmr_coef"),
+        "mmr_coef_more": expected(39, "mmr_coef 0 0", "nlq_offset"),
+        "mmr_order_in_poly": (begun(30, "mmr_order_minus1 0"), "line 30: poly_order_minus1 is expected"),
+        "mmr_constant_in_poly": (begun(31, "mmr_constant 0 0"), "line 31: poly_coef is expected"),
+        "mmr_one_number": at(31, "mmr_constant 0", spaces, "mmr_constant"),
+        "mmr_one_number_later": at(35, "mmr_coef 0", spaces, "mmr_coef"),
+        "mmr_minus_fraction": at(31, "mmr_constant 0 -1", spaces, "mmr_constant"),
+        "mmr_minus_order": at(30, "mmr_order_minus1 -1", spaces, "mmr_order_minus1"),
+        "mmr_zeros": at(31, "mmr_constant 00 0", "a number of mmr_constant begins with 0"),
+        "mmr_minus_zero": at(33, "mmr_coef -0 5", "a number of mmr_coef begins with 0"),
+        "mmr_third_number": at(33, "mmr_coef 0 0 0", "the end of the line is expected"),
+        "mmr_large_constant": large(31, "mmr_constant", "2147483648"),
+        "mmr_small_constant": large(31, "mmr_constant", "-2147483649"),
+        "mmr_large_coef": large(38, "mmr_coef", "4294967296"),
+        "mmr_small_coef": large(32, "mmr_coef", "-4294967296"),
+        "mmr_wraps": large(32, "mmr_coef", "-18446744073709551616"),
+        "mmr_digits": large(36, "mmr_coef", "-" + long),
+        "mmr_large_fraction": at(34, "mmr_coef 0 4294967296",
+                                 "4294967296 does not fit mmr_coef, which holds 0 to 4294967295"),
+        "mmr_large_method": at(29, "mapping_idc 256", "256 does not fit mapping_idc, which holds 0 to 255"),
+        "mmr_large_order": at(30, "mmr_order_minus1 256", "256 does not fit mmr_order_minus1, which holds 0 to 255"),
     }
 
 
@@ -226,23 +298,23 @@ def field_cases():
     """One field of a section of several pieces outside its range."""
     # d is 16 there and both depths are 10
     return wrong_fields(middle_text(1), {
-        "pivots": (("component 2", "num_pivots_minus2"), STOP, 5, "num_pivots_minus2[2] is %d" % (limits.N[-1] + 1)),
-        "pivot": (("component 2", "pred_pivot_value"), "pred_pivot_value 64 736 1024", 5,
+        "pivots": (("component 2", "num_pivots_minus2"), STOP, "num_pivots_minus2[2] is %d" % (limits.N[-1] + 1)),
+        "pivot": (("component 2", "pred_pivot_value"), "pred_pivot_value 64 736 1024",
                   "pred_pivot_value[2][2] is 1024"),
-        "mapping": (("component 0", "piece 1", "mapping_idc"), "mapping_idc 1", 5, "mapping_idc[0][1] is 1"),
-        "mmr": (("component 1", "piece 4", "mapping_idc"), "mapping_idc 1", 6, "mapping_idc[1][4] is 1"),
-        "order": (("component 1", "piece 2", "poly_order_minus1"), "poly_order_minus1 255", 5,
+        "mapping": (("component 0", "piece 1", "mapping_idc"), "mapping_idc 1", "mapping_idc[0][1] is 1"),
+        "method": (("component 1", "piece 4", "mapping_idc"), "mapping_idc 2", "mapping_idc[1][4] is 2"),
+        "order": (("component 1", "piece 2", "poly_order_minus1"), "poly_order_minus1 255",
                   "poly_order_minus1[1][2] is 255"),
-        "integer": (("component 1", "piece 1", "poly_coef"), "poly_coef 64 0", 5, "poly_coef_int[1][1][0] is 64"),
-        "below": (("component 0", "piece 2", "poly_coef", "poly_coef"), "poly_coef -65 0", 5,
+        "integer": (("component 1", "piece 1", "poly_coef"), "poly_coef 64 0", "poly_coef_int[1][1][0] is 64"),
+        "below": (("component 0", "piece 2", "poly_coef", "poly_coef"), "poly_coef -65 0",
                   "poly_coef_int[0][2][1] is -65"),
-        "fraction": (("component 0", "piece 0", "poly_coef", "poly_coef", "poly_coef"), "poly_coef 0 65536", 5,
+        "fraction": (("component 0", "piece 0", "poly_coef", "poly_coef", "poly_coef"), "poly_coef 0 65536",
                      "poly_coef[0][0][2] is 65536"),
-        "offset": (("component 1", "nlq_offset"), "nlq_offset 1024", 5, "nlq_offset[1] is 1024"),
-        "maximum": (("component 0", "hdr_in_max"), "hdr_in_max 2 0", 5, "hdr_in_max_int[0] is 2"),
-        "slope": (("component 2", "linear_deadzone_slope"), "linear_deadzone_slope 0 65536", 5,
+        "offset": (("component 1", "nlq_offset"), "nlq_offset 1024", "nlq_offset[1] is 1024"),
+        "maximum": (("component 0", "hdr_in_max"), "hdr_in_max 2 0", "hdr_in_max_int[0] is 2"),
+        "slope": (("component 2", "linear_deadzone_slope"), "linear_deadzone_slope 0 65536",
                   "linear_deadzone_slope[2] is 65536"),
-        "threshold": (("component 2", "linear_deadzone_threshold"), "linear_deadzone_threshold 255 0", 5,
+        "threshold": (("component 2", "linear_deadzone_threshold"), "linear_deadzone_threshold 255 0",
                       "linear_deadzone_threshold_int[2] is 255"),
     })
 
@@ -250,24 +322,52 @@ def field_cases():
 def last_piece_cases():
     """One field of a last piece of version 2."""
     return wrong_fields(middle_text(2), {
-        "mapping_above": (("component 0", "piece 3", "mapping_idc"), "mapping_idc 1", 5, "mapping_idc[0][3] is 1"),
-        "mmr_above": (("component 2", "piece 2", "mapping_idc"), "mapping_idc 1", 6, "mapping_idc[2][2] is 1"),
-        "order_above": (("component 1", "piece 5", "poly_order_minus1"), "poly_order_minus1 2", 5,
+        "mapping_above": (("component 0", "piece 3", "mapping_idc"), "mapping_idc 1", "mapping_idc[0][3] is 1"),
+        "method_above": (("component 2", "piece 2", "mapping_idc"), "mapping_idc 255", "mapping_idc[2][2] is 255"),
+        "order_above": (("component 1", "piece 5", "poly_order_minus1"), "poly_order_minus1 2",
                         "poly_order_minus1[1][5] is 2"),
-        "integer_above": (("component 0", "piece 3", "poly_coef"), "poly_coef 64 0", 5, "poly_coef_int[0][3][0] is 64"),
-        "fraction_above": (("component 2", "piece 2", "poly_coef", "poly_coef", "poly_coef"), "poly_coef 0 65536", 5,
+        "integer_above": (("component 0", "piece 3", "poly_coef"), "poly_coef 64 0", "poly_coef_int[0][3][0] is 64"),
+        "fraction_above": (("component 2", "piece 2", "poly_coef", "poly_coef", "poly_coef"), "poly_coef 0 65536",
                            "poly_coef[2][2][2] is 65536"),
+    })
+
+
+def mmr_field_cases():
+    """One field of an MMR piece; d is 23 there, and Cb has pieces of 8, 2, 22, 3 and 15 numbers."""
+    fraction = limits.fractions(23).stop
+    coef = "mmr_coef"
+    return wrong_fields(mixed_text(1), {
+        "mmr_method": (("component 1", "piece 2", "mapping_idc"), "mapping_idc 3", "mapping_idc[1][2] is 3"),
+        "mmr_order": (("component 1", "piece 2", "mmr_order_minus1"), "mmr_order_minus1 3",
+                      "mmr_order_minus1[1][2] is 3"),
+        "mmr_order_255": (("component 1", "piece 0", "mmr_order_minus1"), "mmr_order_minus1 255",
+                          "mmr_order_minus1[1][0] is 255"),
+        "mmr_constant": (("component 1", "piece 0", "mmr_constant"), "mmr_constant 65536 0",
+                         "mmr_constant_int[1][0] is 65536"),
+        "mmr_constant_below": (("component 1", "piece 4", "mmr_constant"), "mmr_constant -65537 1",
+                               "mmr_constant_int[1][4] is -65537"),
+        "mmr_constant_least": (("component 1", "piece 4", "mmr_constant"), "mmr_constant -2147483648 1",
+                               "mmr_constant_int[1][4] is -2147483648"),
+        "mmr_constant_part": (("component 1", "piece 2", "mmr_constant"), "mmr_constant -1 %d" % fraction,
+                              "mmr_constant[1][2] is %d" % fraction),
+        "mmr_coef": (("component 1", "piece 0", coef), "mmr_coef 65536 0", "mmr_coef_int[1][0][1][0] is 65536"),
+        "mmr_coef_below": (("component 1", "piece 4", *[coef] * 14), "mmr_coef -65537 0",
+                           "mmr_coef_int[1][4][2][6] is -65537"),
+        "mmr_coef_most": (("component 1", "piece 2", *[coef] * 21), "mmr_coef 2147483647 0",
+                          "mmr_coef_int[1][2][3][6] is 2147483647"),
+        "mmr_coef_part": (("component 1", "piece 2", *[coef] * 8), "mmr_coef 0 4294967295",
+                          "mmr_coef[1][2][2][0] is 4294967295"),
+        "mmr_coef_last": (("component 2", "piece 1", *[coef] * 14), "mmr_coef -65536 %d" % fraction,
+                          "mmr_coef[2][1][2][6] is %d" % fraction),
     })
 
 
 def wrong_fields(text, wrong):
     """{name: (the text with another line, what is shown)}; the line is found by what it and lines before begin with."""
     lines, out = text.decode("ascii").splitlines(), {}
-    for name, (begins, new, number, found) in wrong.items():
+    for name, (begins, new, found) in wrong.items():
         line = find(lines, *begins)
-        rule = {5: "field", 6: "method"}[number]
-        out[name] = (changed(lines, (line, new)),
-                     "line %d: refused %d (%s): %s, allowed " % (line, number, rule, found))
+        out[name] = (changed(lines, (line, new)), "line %d: refused 5 (field): %s, allowed " % (line, found))
     return out
 
 
@@ -288,6 +388,17 @@ def order_cases():
                        "line 20: one space and a number of poly_coef are expected"),
         "not_read_on": (changed(LINES[:15], (14, STOP + " and more")),
                         "line 14: refused 5 (field): num_pivots_minus2[0] is "),
+        "method_not_read_on": (begun(29, "mapping_idc 2 and more"),
+                               "line 29: refused 5 (field): mapping_idc[1][0] is 2, allowed 0 or 1"),
+        "luma_mmr": (begun(17, "mapping_idc 1"), "line 17: refused 5 (field): mapping_idc[0][0] is 1, allowed 0"),
+        "luma_mmr_read_on": (joined(LINES[:16] + MMR_LINES[28:]),
+                             "line 17: refused 5 (field): mapping_idc[0][0] is 1, allowed 0"),
+        "mmr_order_not_read_on": (begun(30, "mmr_order_minus1 3 and more", MMR_LINES),
+                                  "line 30: refused 5 (field): mmr_order_minus1[1][0] is 3, allowed 0 to 2"),
+        "constant_first": (changed(MMR_LINES, (31, "mmr_constant 65536 0"), (35, "mmr_coef -65537 0")),
+                           "line 31: refused 5 (field): mmr_constant_int[1][0] is 65536, allowed -65536 to 65535"),
+        "integer_first": (changed(MMR_LINES, (36, "mmr_coef 65536 4294967295")),
+                          "line 36: refused 5 (field): mmr_coef_int[1][0][1][4] is 65536, allowed -65536 to 65535"),
         "pivot_first": (changed(LINES[:18], (15, "pred_pivot_value 0 1024"), (18, "poly_order_minus1 2")),
                         "line 15: refused 5 (field): pred_pivot_value[0][1] is 1024, allowed less than 1024"),
     }
@@ -295,8 +406,11 @@ def order_cases():
 
 def bad_texts():
     """{name: (text, what is shown)}."""
-    return {**name_cases(), **number_cases(), **large_cases(), **end_cases(), **header_cases(), **field_cases(),
-            **last_piece_cases(), **order_cases()}
+    found = [name_cases(), number_cases(), large_cases(), mmr_cases(), end_cases(), header_cases(), field_cases(),
+             last_piece_cases(), mmr_field_cases(), order_cases()]
+    cases = {name: case for part in found for name, case in part.items()}
+    assert len(cases) == sum(len(part) for part in found)               # no name twice
+    return cases
 
 
 # All ------------------------------------------------------------------------
@@ -306,7 +420,9 @@ def blocks():
     good = plan_text.read_text(joined(LINES)).data
     second = plan_text.read_text(joined(SECOND_LINES)).data
     chosen = {"behind_another.block": (good[:50] + good, 0), "behind_version_1.block": (good + second, 0),
-              "version.block": (good[:-3] + b"\3\0\0", 2), "mmr.block": (good[:63] + b"\1" + good[64:], 6),
+              "version.block": (good[:-3] + b"\3\0\0", 2), "method.block": (good[:63] + b"\2" + good[64:], 5),
+              "luma_mmr.block": (good[:29] + b"\1" + good[30:], 5),
+              "mmr_two.block": (block.write(block_cases.mmr_plan(8, 13, (0, 2), 2), 2), 0),
               "one_as_two.block": (good[:-3] + b"\2\0\0", 5), "two_as_one.block": (second[:-3] + b"\1\0\0", 5)}
     for name, (data, number) in chosen.items():
         assert block.read(data)[0] == number, name

@@ -2,7 +2,7 @@
 
 Order of the answers (the house rules, "Reading"): under 12 bytes 1, then 2, then
 the rest of 1, then 4, then the sections from first byte to last, each field
-for 3 and then for 5 or 6, and each section's left-over bytes (3) at its end.
+for 3 and then for 5, and each section's left-over bytes (3) at its end.
 """
 
 import struct
@@ -21,7 +21,7 @@ class Refusal(Exception):
 
 
 def read(data):
-    """Give (0, plan), or (1..6, None); None stands for the all-zero plan."""
+    """Give (0, plan), or (1..5, None); None stands for the all-zero plan."""
     try:
         return 0, _read_block(bytes(data))
     except Refusal as refusal:
@@ -109,18 +109,22 @@ def _in_range(value, allowed):
     return value
 
 
-def _take_fixed_point(fields, integers, d):
-    """An integer part and a fraction below 2^d: two fields."""
-    integer = _in_range(fields.take(1, signed=integers[0] < 0), integers)
+def _take_fixed_point(fields, integers, d, size=1):
+    """An integer part of this many bytes and a fraction below 2^d: two fields."""
+    integer = _in_range(fields.take(size, signed=integers[0] < 0), integers)
     fraction = _in_range(fields.take(4), limits.fractions(d))
     return integer * (1 << d) + fraction
 
 
-def _take_mapping_idc(fields, cmp):
-    mapping_idc = fields.take(1)
-    if mapping_idc == limits.MMR and cmp in (1, 2):
-        raise Refusal(6)
-    return _in_range(mapping_idc, limits.MAPPING)
+def _read_piece(plan, cmp, piece, fields):
+    """House rules, "Section": what stands after mapping_idc goes by it."""
+    idc = _in_range(fields.take(1), limits.methods(cmp))
+    order = _in_range(fields.take(1), limits.orders(idc))
+    plan.mapping_idc[cmp][piece] = idc
+    plan.order_minus1[cmp][piece] = order
+    for i in range(limits.coefs(order, idc)):
+        plan.fp_coef[cmp][piece][i] = _take_fixed_point(
+            fields, limits.integers(idc), plan.coefficient_log2_denom, limits.integer_bytes(idc))
 
 
 def _read_section(plan, cmp, section, version):
@@ -133,12 +137,7 @@ def _read_section(plan, cmp, section, version):
         plan.pred_pivot_value[cmp][i] = _in_range(
             fields.take(2), limits.samples(plan.BL_bit_depth))
     for piece in range(limits.carried(n, version)):
-        plan.mapping_idc[cmp][piece] = _take_mapping_idc(fields, cmp)
-        order = _in_range(fields.take(1), limits.ORDERS)
-        plan.poly_order_minus1[cmp][piece] = order
-        for i in range(limits.coefs(order)):
-            plan.fp_poly_coef[cmp][piece][i] = _take_fixed_point(
-                fields, limits.COEF_INTS, d)
+        _read_piece(plan, cmp, piece, fields)
     if limits.carried(n, version) < limits.pieces(n):
         repeat_last_piece(plan, cmp)
     plan.nlq_offset[cmp] = _in_range(fields.take(2), limits.samples(plan.EL_bit_depth))
@@ -152,15 +151,15 @@ def repeat_last_piece(plan, cmp):
     """House rules: what version 1 carries is read as if its piece n stood twice."""
     n = plan.num_pivots_minus2[cmp]
     plan.mapping_idc[cmp][n + 1] = plan.mapping_idc[cmp][n]
-    plan.poly_order_minus1[cmp][n + 1] = plan.poly_order_minus1[cmp][n]
-    plan.fp_poly_coef[cmp][n + 1] = list(plan.fp_poly_coef[cmp][n])
+    plan.order_minus1[cmp][n + 1] = plan.order_minus1[cmp][n]
+    plan.fp_coef[cmp][n + 1] = list(plan.fp_coef[cmp][n])
 
 
 def last_piece_repeated(plan, cmp):
     n = plan.num_pivots_minus2[cmp]
     return (plan.mapping_idc[cmp][n + 1] == plan.mapping_idc[cmp][n]
-            and plan.poly_order_minus1[cmp][n + 1] == plan.poly_order_minus1[cmp][n]
-            and plan.fp_poly_coef[cmp][n + 1] == plan.fp_poly_coef[cmp][n])
+            and plan.order_minus1[cmp][n + 1] == plan.order_minus1[cmp][n]
+            and plan.fp_coef[cmp][n + 1] == plan.fp_coef[cmp][n])
 
 
 def has_place_for(version, plan):
@@ -203,10 +202,7 @@ def section_bytes(plan, cmp, version):
     for i in range(limits.pivots(n)):
         out += struct.pack(">H", plan.pred_pivot_value[cmp][i])
     for piece in range(limits.carried(n, version)):
-        order = plan.poly_order_minus1[cmp][piece]
-        out += bytes([plan.mapping_idc[cmp][piece], order])
-        for i in range(limits.coefs(order)):
-            out += _fixed_point_bytes(plan.fp_poly_coef[cmp][piece][i], d)
+        out += piece_bytes(plan, cmp, piece)
     out += struct.pack(">H", plan.nlq_offset[cmp])
     out += _fixed_point_bytes(plan.fp_hdr_in_max[cmp], d)
     out += _fixed_point_bytes(plan.fp_linear_deadzone_slope[cmp], d)
@@ -214,7 +210,16 @@ def section_bytes(plan, cmp, version):
     return bytes(out)
 
 
-def _fixed_point_bytes(number, d):
-    """The fraction adds upward, also below zero: the integer part rounds down."""
+def piece_bytes(plan, cmp, piece):
+    idc, order = plan.mapping_idc[cmp][piece], plan.order_minus1[cmp][piece]
+    out = bytearray([idc, order])
+    for i in range(limits.coefs(order, idc)):
+        out += _fixed_point_bytes(plan.fp_coef[cmp][piece][i], plan.coefficient_log2_denom,
+                                  limits.integer_bytes(idc))
+    return bytes(out)
+
+
+def _fixed_point_bytes(number, d, size=1):
+    """The fraction adds upward, also below zero: the integer part, of this many bytes, rounds down."""
     integer = number >> d
-    return struct.pack(">bI", integer, number - (integer << d))
+    return integer.to_bytes(size, "big", signed=True) + struct.pack(">I", number - (integer << d))

@@ -14,7 +14,7 @@ import limits
 from generator import Generator
 from limits import (DEPTHS, HDR_DEPTHS, HEADER_BYTES, SHORTEST_SECTION, TRAILER_BYTES, VERSIONS,
                     denominators, minus8)
-from sample_cases import Nlq, Section, make_plan, visible_piece
+from sample_cases import PIECES, Nlq, Section, make_plan, set_piece, visible_piece
 
 Case = namedtuple("Case", "kind base start stop edits")
 Field = namedtuple("Field", "name offset size")
@@ -38,6 +38,33 @@ SHOWS = {
     "other number of pieces": ("as many pieces as a section has",),
     "other number of pieces, version 2": ("as many pieces as a section has",),
     "section field, version 2": ("version 2 taken for 1", "a copy in version 2 too"),
+    "MMR valid": (
+        "MMR refused 6", "MMR refused 5", "order 2 refused", "as many orders as mmr_order_minus1 says",
+        "all three orders always", "no constant", "the constant last", "MMR numbers by term, then by order",
+        "MMR integer parts of one byte", "MMR integer parts of two bytes", "MMR integer parts without a sign",
+        "a polynomial's integer parts in MMR", "MMR integer parts of 16 bits",
+        "an MMR fraction with the integer part's sign", "the method not copied", "only three coefficients copied",
+        "the last coefficient not copied", "the order not copied", "the copy forgotten in chroma",
+        "MMR in profile 1 alone"),
+    "MMR valid, version 2": (
+        "MMR in profile 1 alone", "MMR refused 6", "order 2 refused", "MMR numbers by term, then by order",
+        "a copy in version 2 too", "version 2 of luma alone"),
+    "MMR field": (
+        "methods above 1 taken for MMR", "a method by its lowest bit", "orders above 2 taken for 2",
+        "MMR integer parts by their low 17 bits", "65,536 taken", "-65,537 taken", "-65,536 refused",
+        "65,535 refused", "an MMR fraction of 2^d taken", "MMR fractions not tested"),
+    "MMR field, version 2": (
+        "methods above 1 taken for MMR", "65,536 taken", "-65,537 taken", "an MMR fraction of 2^d taken"),
+    "MMR for luma": ("MMR in luma too",),
+    "MMR for luma, version 2": ("MMR in luma too",),
+    "MMR shape": ("orders above 2 taken for 2", "all three orders always", "no constant"),
+    "MMR fraction and d": ("an MMR fraction of 2^d taken", "MMR fractions not tested"),
+    "MMR cut": ("an MMR number as one field", "mapping_idc and the order as one field", "MMR refused 5"),
+    "MMR length": ("MMR refused 5", "no constant"),
+    "MMR faults": ("MMR refused 5", "65,536 taken", "-65,537 taken"),
+    "MMR longest": ("order 2 refused", "the constant last", "the last coefficient not copied"),
+    "MMR longest, version 2": ("order 2 refused", "the constant last", "a copy in version 2 too"),
+    "MMR damaged": ("MMR integer parts by their low 17 bits", "MMR fractions not tested"),
 }
 
 HEADER_FIELDS = (
@@ -99,7 +126,10 @@ class Base:
 
 
 def section_fields(plan, cmp, version):
-    """The fields of one section in order, offsets from its first byte."""
+    """The fields of one section in order, offsets from its first byte.
+
+    c0 to c2 are the numbers of a polynomial; mmr0 is the constant of MMR, mmr1 to mmr21 are its coefficients.
+    """
     fields = []
     at = 0
 
@@ -108,8 +138,8 @@ def section_fields(plan, cmp, version):
         fields.append(Field("s%d_%s" % (cmp, name), at, size))
         at += size
 
-    def add_fixed_point(name):
-        add(name + "_int", 1)
+    def add_fixed_point(name, size=1):
+        add(name + "_int", size)
         add(name + "_fraction", 4)
 
     n = plan.num_pivots_minus2[cmp]
@@ -117,10 +147,11 @@ def section_fields(plan, cmp, version):
     for i in range(limits.pivots(n)):
         add("pivot%d" % i, 2)
     for piece in range(limits.carried(n, version)):
+        idc = plan.mapping_idc[cmp][piece]
         add("p%d_idc" % piece, 1)
-        add("p%d_order" % piece, 1)
-        for i in range(limits.coefs(plan.poly_order_minus1[cmp][piece])):
-            add_fixed_point("p%d_c%d" % (piece, i))
+        add("p%d_%sorder" % (piece, "mmr_" * idc), 1)
+        for i in range(limits.coefs(plan.order_minus1[cmp][piece], idc)):
+            add_fixed_point("p%d_%s%d" % (piece, ("c", "mmr")[idc], i), limits.integer_bytes(idc))
     add("offset", 2)
     add_fixed_point("max")
     add_fixed_point("slope")
@@ -339,16 +370,16 @@ def trailer_cases(bases):
 def edge_values(name, depth, d):
     """(value, answer): a field's ends and the numbers beyond them.
 
-    Another n or order in range moves the fields after it: what they hold decides.
+    Another n, method or order in range moves the fields after it: what they hold decides.
     """
     if name.endswith("_n"):
         most = limits.N[-1]
         return (0, None), (1, None), (most, None), (most + 1, 5), (most + 2, 5), (255, 5)
     if name.endswith("_idc"):
-        return (0, 0), (limits.MMR, 5 if name.startswith("s0") else 6), (2, 5), (255, 5)
+        return (0, None), (limits.MMR, 5 if name.startswith("s0") else None), (2, 5), (255, 5)
     if name.endswith("_order"):
-        most = limits.ORDERS[-1]
-        return (0, None), (most, None), (most + 1, 5), (255, 5)
+        allowed = limits.orders(limits.MMR if "_mmr" in name else limits.POLYNOMIAL)
+        return (*((order, None) for order in allowed), (allowed[-1] + 1, 5), (255, 5))
     if "_pivot" in name or name.endswith("_offset"):
         top = limits.samples(depth)[-1]
         return (0, 0), (top, 0), (top + 1, 5), (65535, 5)
@@ -356,11 +387,17 @@ def edge_values(name, depth, d):
         top, largest = limits.fractions(d)[-1], (1 << 32) - 1
         return (0, 0), (top, 0), (top + 1, 5), (largest, 0 if largest == top else 5)
     if "_c" in name:
-        low, high = limits.COEF_INTS[0], limits.COEF_INTS[-1]
-        return ((low - 1, 5), (low, 0), (-1, 0), (0, 0), (high, 0), (high + 1, 5), (127, 5),
-                (-128, 5))
+        return integer_edges(limits.COEF_INTS, 8)
+    if "_mmr" in name:
+        return integer_edges(limits.MMR_INTS, 32)
     most = limits.NLQ_INTS[-1]
     return (0, 0), (most, 0), (most + 1, 5), (255, 5)
+
+
+def integer_edges(allowed, bits):
+    """Of a signed field of so many bits."""
+    low, high, most = allowed[0], allowed[-1], 1 << (bits - 1)
+    return (low - 1, 5), (low, 0), (-1, 0), (0, 0), (high, 0), (high + 1, 5), (most - 1, 5), (-most, 5)
 
 
 def names_of_sections(base):
@@ -377,15 +414,15 @@ def names_of_last_pieces(base):
     return [name for name in base.fields if name.startswith(last)]
 
 
-def section_edge_cases(bases, names=names_of_sections):
+def section_edge_cases(bases, names=names_of_sections, kind="section field"):
     cases = []
     for base in bases:
         depth, d = base.value("el") + 8, base.value("d")
         for name in names(base):
             for value, number in edge_values(name, depth, d):
                 if value < 1 << 32:
-                    cases.append(read_whole("section field", base,
-                                            base.put_all([(name, value)]), number))
+                    edits = base.put_all([(name, value)])
+                    cases.append(read_whole(kind, base, edits, number if edits else 0))
     return cases
 
 
@@ -435,7 +472,7 @@ def longest_cases(base):
         pivot = section + "pivot%d" % (limits.PIVOT_PLACES - 1)
         for name, value, number in (
                 (section + "n", n + 1, 5), (section + "n", n - 1, None), (pivot, top + 1, 5), (pivot, top, 0),
-                (piece + "idc", limits.MMR, 6 if cmp else 5), (piece + "idc", 2, 5),
+                (piece + "idc", limits.MMR, None if cmp else 5), (piece + "idc", 2, 5),
                 (piece + "order", limits.ORDERS[-1] + 1, 5), (piece + "order", 0, None),
                 (piece + "c2_int", high + 1, 5), (piece + "c2_int", low - 1, 5),
                 (section + "offset", top + 1, 5), (section + "threshold_int", limits.NLQ_INTS[-1] + 1, 5)):
@@ -456,13 +493,13 @@ def cut_section(base, cmp, size, tails):
     return base, base.put_all([(after, base.value(before) - size)])
 
 
-def cut_cases(base, tails, least=1):
+def cut_cases(base, tails, least=1, components=range(3)):
     """Each field cut off, whole or in part, in range or not; this many bytes or more are left of a section."""
     cases = []
     depth, d = base.value("el") + 8, base.value("d")
-    sizes = range(least, SHORTEST_SECTION[base.version])
-    for cmp in range(3):
+    for cmp in components:
         start = base.fields["s%d_n" % cmp].offset
+        sizes = range(least, len(split(base)[1 + cmp]))
         left = [size for size in sizes if cmp < 2 or size in tails]
         for size in left:
             cut, edits = cut_section(base, cmp, size, tails)
@@ -507,10 +544,10 @@ def length_cases(bases, base):
     """Bytes left over and one byte missing, alone and with other faults."""
     changes = (lambda s: s + b"\0", lambda s: s + b"\1\2", lambda s: s[:-1],
                lambda s: s + bytes(400))
-    n, integer, mmr = limits.N[-1] + 1, limits.NLQ_INTS[-1] + 1, limits.MMR
+    n, integer, method = limits.N[-1] + 1, limits.NLQ_INTS[-1] + 1, limits.MMR + 1
     faults = (("profile", 2), ("s0_threshold_int", integer), ("s0_n", n),
-              ("s1_n", n), ("s1_p0_idc", mmr), ("s1_threshold_int", integer),
-              ("s2_n", n), ("s2_p0_idc", mmr), ("s2_threshold_int", integer))
+              ("s1_n", n), ("s1_p0_idc", method), ("s1_threshold_int", integer),
+              ("s2_n", n), ("s2_p0_idc", method), ("s2_threshold_int", integer))
     cases = []
     for cmp in range(3):
         for change in changes:
@@ -562,10 +599,10 @@ def faults(base):
         ("s0_n", n, 5), ("s0_pivot1", sample, 5), ("s0_p0_idc", limits.MMR, 5),
         ("s0_p0_order", order, 5), ("s0_p0_c1_fraction", fraction, 5),
         ("s0_threshold_int", integer, 5),
-        ("s1_n", n, 5), ("s1_pivot0", sample, 5), ("s1_p0_idc", limits.MMR, 6),
+        ("s1_n", n, 5), ("s1_pivot0", sample, 5), ("s1_p0_idc", limits.MMR + 1, 5),
         ("s1_p0_c0_int", coefficient, 5), ("s1_slope_fraction", fraction, 5),
-        ("s2_n", n, 5), ("s2_n", 1, 5), ("s2_pivot1", 65535, 5), ("s2_p0_idc", limits.MMR, 6),
-        ("s2_p0_idc", 2, 5), ("s2_p0_order", 1, 5), ("s2_p0_order", 255, 5),
+        ("s2_n", n, 5), ("s2_n", 1, 5), ("s2_pivot1", 65535, 5), ("s2_p0_idc", limits.MMR + 1, 5),
+        ("s2_p0_idc", 255, 5), ("s2_p0_order", 1, 5), ("s2_p0_order", 255, 5),
         ("s2_offset", sample, 5), ("s2_threshold_fraction", 1 << 31, 5))
     return [Fault(*fault) for fault in found]
 
@@ -661,12 +698,13 @@ def piece_count_cases(bases, base, number=None):
 def last_piece_order_cases(base):
     """A fault in a last piece and another one: 2, then 4, then the one that stands first."""
     sample, integer = limits.samples(base.value("bl") + 8)[-1] + 1, limits.NLQ_INTS[-1] + 1
-    last = (Fault(last_piece(base, 0) + "idc", limits.MMR, 5), Fault(last_piece(base, 1) + "idc", limits.MMR, 6),
+    method = limits.MMR + 1
+    last = (Fault(last_piece(base, 0) + "idc", limits.MMR, 5), Fault(last_piece(base, 1) + "idc", method, 5),
             Fault(last_piece(base, 2) + "order", limits.ORDERS[-1] + 1, 5),
             Fault(last_piece(base, 2) + "c1_int", limits.COEF_INTS[-1] + 1, 5))
     others = (Fault("version", VERSIONS[-1] + 1, 2), Fault("profile", 2, 4), Fault("s0_p0_idc", 2, 5),
-              Fault("s0_offset", sample, 5), Fault("s1_p0_idc", limits.MMR, 6), Fault("s1_offset", sample, 5),
-              Fault("s2_p0_idc", limits.MMR, 6), Fault("s2_threshold_int", integer, 5))
+              Fault("s0_offset", sample, 5), Fault("s1_p0_idc", method, 5), Fault("s1_offset", sample, 5),
+              Fault("s2_p0_idc", method, 5), Fault("s2_threshold_int", integer, 5))
     cases = []
     for one in last:
         for other in others:
@@ -709,6 +747,223 @@ def second_cases(bases, firsts):
     for base in (middle, firsts[-1]):                   # of several pieces each
         cases += piece_count_cases(bases, base)
     return cases + damage_cases([short, short, second, middle, behind], Generator(204), 120)
+
+
+# MMR ------------------------------------------------------------------------
+
+def mmr_numbers(order, first):
+    """Small numbers, each another one from `first` on, every third of them below zero."""
+    return [-z if z % 3 == 2 else z for z in range(first, first + limits.coefs(order, limits.MMR))]
+
+
+def mmr_plan(depth, d, orders, version=1):
+    """n = 0: luma a polynomial, chroma MMR of these orders; above the last pivot MMR of the next order."""
+    sections = [small_section(depth, d, 0, 1, version)]
+    for cmp, order in enumerate(orders, 1):
+        after = limits.MMR_ORDERS[(order + 1) % len(limits.MMR_ORDERS)]
+        pieces = [mmr_numbers(order, 30 * cmp), mmr_numbers(after, 100 * cmp)]
+        sections.append(small_section(depth, d, cmp, 1, version)._replace(pieces=pieces[:limits.carried(0, version)]))
+    return make_plan(depth, d, 12, 8, 4, sections)
+
+
+def whole_range_piece(d, size, generator):
+    """So many numbers over the whole range of the method that has as many."""
+    allowed = limits.coefficients(d, PIECES[size][0])
+    return [generator.among(allowed) for _ in range(size)]
+
+
+def mixed_plan(depth, d, generator, version=1):
+    """Both methods and all orders in one component; luma of polynomials."""
+    top = limits.samples(depth)[-1]
+    sections = []
+    for sizes in ((2, 3), (8, 2, 22, 3, 15, 8), (3, 15, 22)):
+        n = len(sizes) - 2
+        pivots = [i * top // (n + 1) for i in range(limits.pivots(n))]
+        pieces = [whole_range_piece(d, size, generator) for size in sizes[:limits.carried(n, version)]]
+        sections.append(Section(pivots, pieces, Nlq(top // 3, 1 << d, 5, 6)))
+    return make_plan(depth, d, 12, 16, 16, sections)
+
+
+def mmr_zero_plan(n, order):
+    """Chroma of MMR pieces of zeros: another n, method or order then meets a wrong length only."""
+    plan = zero_plan(n, 1)
+    for cmp in (1, 2):
+        for piece in range(limits.pieces(n)):
+            set_piece(plan, cmp, piece, [0] * limits.coefs(order, limits.MMR))
+    return plan
+
+
+def longest_mmr_plan(depth, d, generator, version=1):
+    """The longest block there is: all pieces, chroma of MMR of the highest order, every number its own."""
+    plan = longest_plan(depth, d, generator, version)
+    for cmp in (1, 2):
+        for piece in range(limits.carried(limits.N[-1], version)):
+            set_piece(plan, cmp, piece, whole_range_piece(d, limits.COEF_PLACES, generator))
+        if version == 1:
+            block.repeat_last_piece(plan, cmp)
+    return plan
+
+
+def names_of_mmr(base):
+    """The fields of chroma from the pieces on."""
+    return [name for name in names_of_sections(base) if name[1] in "12" and not name.endswith("_n")
+            and "_pivot" not in name]
+
+
+def names_of_last_mmr(base):
+    return [name for name in names_of_last_pieces(base) if name[1] in "12"]
+
+
+def mmr_values(base):
+    """Values of single fields that are telling beside the edges, with what they show: methods, signs, widths."""
+    more = limits.MMR_INTS[-1] + 1
+    for piece in ("s1_p0_", "s2_p0_"):
+        last = limits.coefs(base.value(piece + "mmr_order"), limits.MMR) - 1
+        for name in (piece + "mmr0_int", piece + "mmr%d_int" % last):
+            yield from ((name, value, 0) for value in (63, 64, -65, 255, 256, 32768, -32769))
+            yield from ((name, value, 5) for value in (1 << 23, 1 << 24, -1 << 24, more << 8, more | 1, -more - 256))
+        yield from ((piece + "idc", value, 5) for value in (3, 128, 254))
+        yield from ((piece + "mmr_order", value, 5) for value in (4, 128, 254))
+
+
+def mmr_shape_cases(bases):
+    """n, the method and the order other ones, in sections of zeros: of one piece only the length is wrong then."""
+    cases = []
+    for base in bases:
+        cases.append(read_whole("MMR shape", base, number=0))
+        for cmp in (1, 2):
+            section = "s%d_" % cmp
+            shape = 3 if last_piece(base, cmp) == section + "p0_" else None
+            wrong = [("n", n, shape) for n in (0, 1, 2, limits.N[-1])]
+            wrong += [("p0_idc", 0, shape if base.value(section + "p0_mmr_order") in limits.ORDERS else 5)]
+            wrong += [("p0_mmr_order", order, shape) for order in limits.MMR_ORDERS]
+            wrong += [("n", limits.N[-1] + 1, 5), ("p0_mmr_order", 3, 5), ("p0_mmr_order", 255, 5)]
+            cases += [refused_whole("MMR shape", base, base.put_all([(section + name, value)]), number)
+                      for name, value, number in wrong if value != base.value(section + name)]
+    return cases
+
+
+def mmr_denominator_cases(base):
+    """Fractions 2^d - 1 and 2^d of the constant and of a last coefficient for each d."""
+    cases = []
+    for d in denominators(base.value("el") + 8):
+        name = ("s1_p0_mmr0_fraction", "s2_p0_mmr7_fraction", "s1_p0_mmr6_fraction")[d % 3]
+        for value, number in ((limits.fractions(d)[-1], 0), (limits.fractions(d).stop, 5)):
+            if value < 1 << 32:
+                edits = base.put_all([("d", d), (name, value)])
+                cases.append(read_whole("MMR fraction and d", base, edits, number))
+    return cases
+
+
+def mmr_length_cases(bases, base):
+    """Bytes left over and bytes missing in a chroma section, alone and with another fault after them."""
+    cases = []
+    for cmp in (1, 2):
+        for change in (lambda s: s + b"\0", lambda s: s + bytes(8), lambda s: s[:-1], lambda s: s[:-8],
+                       lambda s: s + bytes(limits.MMR_TERMS * 8)):
+            data = one_bad_length(base, cmp, change)
+            changed = bases.add(data)
+            cases.append(read_whole("MMR length", changed, number=3))
+            if cmp == 1:
+                at = len(data) - TRAILER_BYTES - base.value("D2")      # the first byte of section 2
+                cases.append(read_whole("MMR length", changed, [(at, limits.N[-1] + 1)], 3))
+    return cases
+
+
+def mmr_for_luma_cases(bases, base):
+    """Section 1 in the place of section 0 too: nothing is wrong but the method."""
+    header, _, cb, cr = split(base)
+    made = bases.add(block.assemble(header, [cb, cb, cr], base.version))
+    return [read_whole("MMR for luma", made, number=5)]
+
+
+def mmr_faults(base):
+    """Fields of MMR pieces and round about them, in the order of the block; each shows 5."""
+    fraction, beyond = limits.fractions(base.value("d")).stop, limits.MMR_INTS[-1] + 1
+    return [Fault(name, value, 5) for name, value in (
+        ("s0_p0_idc", limits.MMR), ("s0_p0_c1_int", limits.COEF_INTS[-1] + 1), ("s1_p0_idc", limits.MMR + 1),
+        ("s1_p0_mmr_order", limits.MMR_ORDERS[-1] + 1), ("s1_p0_mmr0_int", beyond), ("s1_p0_mmr0_fraction", fraction),
+        ("s1_p0_mmr4_int", -beyond - 1), ("s1_offset", 65535), ("s2_p0_mmr_order", 255),
+        ("s2_p0_mmr0_fraction", fraction), ("s2_p0_mmr7_int", beyond), ("s2_p0_mmr7_fraction", fraction),
+        ("s2_threshold_int", 2))]
+
+
+def mmr_order_cases(base):
+    """Each fault with one that comes before it, or with section 1 a byte shorter or longer, which shows at its end."""
+    D2, size = base.value("D2"), len(base.data)
+    cases = []
+    for fault in mmr_faults(base):
+        for other, number in ((("version", limits.VERSIONS[-1] + 1), 2), (("half_height", 0), 4),
+                              (("D2", D2 + 1), 3 if fault.name.startswith("s2") else 5),
+                              (("D2", D2 - 1), 3 if fault.name.startswith("s2") else 5)):
+            cases.append(read_whole("MMR faults", base, base.put_all([fault[:2], other]), number))
+        edits = base.put_all([fault[:2]])
+        cases.append(read_whole("MMR faults", base, edits, fault.number))
+        cases.append(read_part("MMR faults", base, 1, size, edits, 1))
+    return cases
+
+
+def longest_mmr_cases(base):
+    """The last piece of each chroma section, and one too many of everything."""
+    n, beyond = limits.N[-1], limits.MMR_INTS[-1] + 1
+    cases = [read_whole("MMR longest", base, number=0)]
+    for cmp in (1, 2):
+        section, piece = "s%d_" % cmp, last_piece(base, cmp)
+        last = piece + "mmr%d_" % (limits.COEF_PLACES - 1)
+        cases += [read_whole("MMR longest", base, base.put_all([(name, value)]), number) for name, value, number in (
+            (section + "n", n + 1, 5), (section + "n", n - 1, None), (piece + "idc", 2, 5), (piece + "idc", 0, None),
+            (piece + "mmr_order", 3, 5), (piece + "mmr_order", 1, None), (piece + "mmr0_int", beyond, 5),
+            (last + "int", -beyond - 1, 5), (last + "int", 0, 0), (section + "threshold_int", 2, 5))]
+    return cases
+
+
+def cut_tails(bases, base):
+    """{size: block} of which the last section has so many bytes: each field whole, and less its last byte."""
+    start = base.fields["s2_n"].offset
+    ends = {field.offset + field.size - start for name, field in base.fields.items() if name.startswith("s2_")}
+    sizes = {size for end in ends for size in (end, end - 1) if 0 < size < max(ends)}
+    return {size: bases.add(one_bad_length(base, 2, lambda section: section[:size])) for size in sorted(sizes)}
+
+
+def mmr_cases(bases):
+    """MMR pieces in both versions."""
+    generator = Generator(205)
+    least_8, least_10, most = denominators(8)[0], denominators(10)[0], denominators(10)[-1]
+    short = bases.add_plan(mmr_plan(10, least_10, (0, 0)))
+    higher = bases.add_plan(mmr_plan(8, most, (1, 2)))
+    short_two = bases.add_plan(mmr_plan(8, least_8, (0, 2), 2), version=2)
+    mixed, mixed_two = (bases.add_plan(mixed_plan(depth, d, generator, version), version=version)
+                        for depth, d, version in ((10, most, 1), (8, 20, 2)))
+    zeros = [bases.add_plan(mmr_zero_plan(n, order)) for n, order in ((0, 0), (0, 1), (0, 2), (2, 0))]
+    zeros.append(bases.add_plan(mmr_zero_plan(0, 1), version=2))
+    longest = [bases.add_plan(longest_mmr_plan(depth, d, generator, version), version=version)
+               for depth, d, version in ((10, most, 1), (8, least_8, 2))]
+    behind = bases.add_plan(mmr_plan(10, 23, (2, 1)), block.write(small_plan(8, 20)))
+    tails = cut_tails(bases, short)
+
+    cases = [read_whole("MMR valid", base, number=0) for base in (short, higher, short_two, mixed, mixed_two, behind)]
+    cases += [read_whole("MMR valid", base, base.put(profile=profile), 0) for base in (short, mixed_two)
+              for profile in limits.PROFILES[1:]]
+    cases += section_edge_cases([short, higher], names_of_mmr, "MMR field")
+    cases += section_edge_cases([short_two], names_of_last_mmr, "MMR field")
+    cases += [read_whole("MMR field", base, base.put_all([(name, value)]), number) for base in (short, higher)
+              for name, value, number in mmr_values(base)]
+    cases += mmr_shape_cases(zeros)
+    cases += mmr_denominator_cases(short)
+    cases += [case._replace(kind="MMR cut") for case in cut_cases(short, tails, components=(1, 2))]
+    cases += mmr_length_cases(bases, short)
+    for base in (short, higher, short_two):
+        cases += mmr_for_luma_cases(bases, base)
+    cases += mmr_order_cases(short)
+    for base in longest:
+        assert len(base.data) == limits.LONGEST_BLOCK[base.version]
+        cases += longest_mmr_cases(base)
+    cases += [refused_whole("MMR, other version", base, base.put(version=3 - base.version))
+              for base in (short, higher, short_two, mixed, mixed_two, *longest)]
+    ignored = ignored_cases(behind, behind.fields["profile"].offset, 20)
+    damaged = damage_cases([short, short, higher, short_two, mixed, mixed_two, behind], Generator(206), 500)
+    cases += [case._replace(kind="MMR ignored bytes") for case in ignored]
+    return cases + [case._replace(kind="MMR damaged") for case in damaged]
 
 
 # Random damage ----------------------------------------------------------------
@@ -814,4 +1069,5 @@ def all_cases():
                            after_other, tails[SHORTEST_SECTION[1] - 1]], Generator(202), 3000)
     cases += other_version_cases(zeros, 3) + piece_count_cases(bases, zeros[2], 3)
     cases += second_cases(bases, [short_10, second_8, longest_10, after_other, middle])
+    cases += mmr_cases(bases)
     return [base.data for base in bases.all], cases

@@ -118,7 +118,7 @@ def use_cases():
 def good_cases():
     plain, enhanced = composed(BLOCK, BASE), composed(BLOCK, BASE, ENHANCEMENT)
     eight = composed(FILES["eight_bit.block"], FILES["eight_bit.yuv"])
-    second = {"two": FILES["version_two.block"]}
+    second, mmr = {"two": FILES["version_two.block"]}, {"mmr": FILES["mmr.block"]}
     latin = os.fsdecode(b"\xe9t\xe9.yuv")
     return [
         good(["block", "base.yuv", "none", "out.yuv"], "out.yuv", plain),
@@ -134,6 +134,10 @@ def good_cases():
         good(["--standby", "two", "base.yuv", "enhancement.yuv", "out.yuv"], "out.yuv",
              composed(second["two"], BASE, ENHANCEMENT), add=second),
         good(["alike", "base.yuv", "none", "out.yuv"], "out.yuv", plain, add={"alike": FILES["alike_two.block"]}),
+        good(["mmr", "base.yuv", "none", "out.yuv"], "out.yuv", composed(mmr["mmr"], BASE), add=mmr),
+        good(["--standby", "mmr", "base.yuv", "enhancement.yuv", "out.yuv"], "out.yuv",
+             composed(mmr["mmr"], BASE, ENHANCEMENT), add=mmr),
+        good(["mmr", "base.yuv", "none", "base.yuv"], "base.yuv", composed(mmr["mmr"], BASE), add=mmr),
         good(["flag", "base.yuv", "missing.yuv", "out.yuv"], "out.yuv", plain, add={"flag": FILES["flag.block"]}),
         good(["block", "base.yuv", "none", "base.yuv"], "base.yuv", plain),
         good(["block", "base.yuv", "base.yuv", "base.yuv"], "base.yuv", composed(BLOCK, BASE, BASE)),
@@ -200,7 +204,7 @@ def refused_block_cases():
                add={"bad": FILES[name]})
            for name in ("eleven.block", "cut.block", "version.block", "one_as_two.block", "left_over.block",
                         "profile.block", "profile_behind_zeros.block", "far.block", "too_far.block",
-                        "coefficient.block", "mmr.block")]
+                        "coefficient.block", "method.block", "luma_mmr.block")]
     short = words.refused("bad", 1, "0 bytes, allowed 12 or more")
     out.append(bad(["bad", "base.yuv", "none", "out.yuv"], short, add={"bad": b""}))
     out.append(bad(["/dev/null", "base.yuv", "none", "out.yuv"], short.replace("bad", "/dev/null", 1)))
@@ -299,6 +303,7 @@ def inspect_cases():
         inspect("block", said=shown("block")),
         inspect("version_two.block", said=shown("version_two.block"), exact=True,
                 add={"version_two.block": FILES["version_two.block"]}),
+        inspect("mmr.block", said=shown("mmr.block"), exact=True, add={"mmr.block": FILES["mmr.block"]}),
         inspect("block", "small.block", said=shown("block", "small.block"), add={"small.block": BLOCK}),
         inspect("--", "block", "--rules", said=shown("block", "./--rules"), add={"--rules": BLOCK}),
         inspect("block", "missing", "eleven.block", "block", "pipe", "block", status=1, said=shown("block") * 3,
@@ -307,8 +312,8 @@ def inspect_cases():
                 add={"eleven.block": FILES["eleven.block"]}, setup=make(("mkfifo", "pipe"))),
     ] + [inspect(name, status=1, line=inspect_block.inspect(name, FILES[name])[-2], add={name: FILES[name]})
          for name in ("eleven.block", "cut.block", "version.block", "one_as_two.block", "left_over.block",
-                      "profile_behind_zeros.block", "far.block", "too_far.block", "coefficient.block", "mmr.block",
-                      "empty")] + [
+                      "profile_behind_zeros.block", "far.block", "too_far.block", "coefficient.block", "method.block",
+                      "luma_mmr.block", "empty")] + [
         inspect(".", status=1, line=".: cannot be read: it is a folder"),
         inspect("", status=1, line=": cannot be read: no such file or folder"),
         inspect("block/x", status=1, line="block/x: cannot be read: a folder of its path is a file"),
@@ -335,8 +340,10 @@ def plot_cases():
         inspect("--plot", "--", "-out.svg", "block", left={"-out.svg": svg}),
         inspect("--plot", "a b.svg", "--plot", left={"a b.svg": svg}, add={"--plot": BLOCK}),
         inspect("--plot", "link", "block", left={"new.svg": svg}, setup=make(("symlink", "new.svg", "link"))),
-        inspect("--plot", "out.svg", "bad", status=1, line=inspect_block.inspect("bad", FILES["mmr.block"])[-2],
-                add={"bad": FILES["mmr.block"]}),
+        inspect("--plot", "out.svg", "mmr", left={"out.svg": drawn(FILES["mmr.block"])},
+                add={"mmr": FILES["mmr.block"]}),
+        inspect("--plot", "out.svg", "bad", status=1, line=inspect_block.inspect("bad", FILES["method.block"])[-2],
+                add={"bad": FILES["method.block"]}),
         inspect("--plot", "out.svg", "missing", status=1, line="missing: cannot be read: no such file or folder"),
         inspect("--plot", "out.svg", "pipe", status=1, line=PIPE % "pipe", setup=make(("mkfifo", "pipe"))),
         refused("/dev/null", "it is no regular file", nobody=True),
@@ -353,7 +360,9 @@ def plot_cases():
 
 TEXT = author_cases.joined(author_cases.LINES)
 SECOND_TEXT = author_cases.joined(author_cases.SECOND_LINES)
-TEXT_BLOCK, SECOND_TEXT_BLOCK = (plan_text.read_text(text).data for text in (TEXT, SECOND_TEXT))
+MMR_TEXT = author_cases.joined(author_cases.MMR_LINES)
+TEXT_BLOCK, SECOND_TEXT_BLOCK, MMR_TEXT_BLOCK = (
+    plan_text.read_text(text).data for text in (TEXT, SECOND_TEXT, MMR_TEXT))
 TEXTS = {"text": TEXT}
 
 
@@ -378,6 +387,7 @@ def author_good_cases():
         authored(["text", "old"], "old", add={**TEXTS, "old": b"an older block"}),
         authored(["text", "text"], "text"),
         authored(["two", "out"], "out", SECOND_TEXT_BLOCK, add={"two": SECOND_TEXT}),
+        authored(["mmr", "out"], "out", MMR_TEXT_BLOCK, add={"mmr": MMR_TEXT}),
         authored(["a text", "a block"], "a block", add={"a text": TEXT}),
         authored(["--", "--text", "--text"], "--text", add={"--text": TEXT}),
         authored(["text", "line\nend"], "line\nend"),
@@ -387,6 +397,7 @@ def author_good_cases():
         write_text("--text", "--", "--text", said=shown, exact=True, add={"--text": BLOCK}),
         write_text("--text", "behind", said=shown, exact=True, add={"behind": FILES["behind_zeros.block"]}),
         write_text("--text", "two", said=SECOND_TEXT.decode(), exact=True, add={"two": SECOND_TEXT_BLOCK}),
+        write_text("--text", "mmr", said=MMR_TEXT.decode(), exact=True, add={"mmr": MMR_TEXT_BLOCK}),
     ]
 
 
@@ -401,8 +412,9 @@ def author_bad_cases():
     def unshown(name, line, **wanted):
         return write_text("--text", name, status=1, line=line, said="", exact=True, **wanted)
 
-    chosen = ("line_missing", "two_spaces", "minus_zero", "digits", "component", "empty", "too_long", "profile", "mmr",
-              "version", "version_0", "piece_missing", "piece_more", "mmr_above")
+    chosen = ("line_missing", "two_spaces", "minus_zero", "digits", "component", "empty", "too_long", "profile",
+              "method", "version", "version_0", "piece_missing", "piece_more", "method_above", "mmr_coef_missing",
+              "mmr_large_constant", "mmr_order", "mmr_constant", "mmr_coef_part", "luma_mmr", "mmr_digits")
     bad = {name: author_cases.bad_texts()[name][0] for name in chosen}
     taken = words.unwritten("out", 17, "author").split(": cannot be written: ")[1]
     return [unmade(name + ".txt", "out", refusal_of(name + ".txt", text), add={name + ".txt": text})
@@ -424,7 +436,7 @@ def author_bad_cases():
                   setup=make(("chmod", "folder", 0o555))),
         unshown("missing", "missing: cannot be read: no such file or folder"),
         unshown("pipe", PIPE % "pipe", setup=make(("mkfifo", "pipe"))),
-        unshown("bad", inspect_block.inspect("bad", FILES["mmr.block"])[-2], add={"bad": FILES["mmr.block"]}),
+        unshown("bad", inspect_block.inspect("bad", FILES["method.block"])[-2], add={"bad": FILES["method.block"]}),
     ]
 
 

@@ -41,6 +41,35 @@ def second_version(good):
     return block.write(plan, 2)
 
 
+# Of MMR pieces in 64ths, by order: Cb and Cr mostly stay what they are, and luma moves them.
+MMR_PIECES = {1: [4, 6, 50, 3, -5, 2, -3, 4], 2: [7, -3, 4, 44, 5, -6, 3, 2, 4, -2, 5, -3, 2, -4, 3],
+              3: [6, 9, 40, -4, 3, 5, -2, 6, -7, 4, 2, 3, -5, 2, -3, 4, -6, 3, 5, -2, 4, -3]}
+
+
+def with_mmr(data, cb, cr):
+    """The block with MMR of these orders in the first pieces of Cb and Cr; None leaves a component its polynomials."""
+    plan, version = block.read(data)[1], block.version_of(data)
+    for cmp, order in ((1, cb), (2, cr)):
+        if order is not None:
+            unit = 1 << (plan.coefficient_log2_denom - 6)
+            set_piece(plan, cmp, 0, [unit * z + cmp for z in MMR_PIECES[order]])
+            if version == 1 and plan.num_pivots_minus2[cmp] == 0:
+                block.repeat_last_piece(plan, cmp)
+    return block.write(plan, version)
+
+
+def mmr_blocks(blocks):
+    """Blocks with MMR pieces, made of others."""
+    return {
+        "mmr.block": with_mmr(blocks["small.block"], 3, 2),
+        "mmr_cb.block": with_mmr(blocks["small.block"], 1, None),
+        "mmr_eight_bit.block": with_mmr(blocks["eight_bit.block"], None, 3),
+        "mmr_wide.block": with_mmr(blocks["wide.block"], 2, 3),
+        "mmr_tiny.block": with_mmr(blocks["tiny.block"], 1, 2),
+        "mmr_two.block": with_mmr(blocks["version_two.block"], 2, 1),
+    }
+
+
 def good_blocks(good):
     small = sized(good, WIDTH, HEIGHT)
     pivots = [[value // 4 for value in values] for values in block.read(good)[1].pred_pivot_value]
@@ -85,7 +114,8 @@ def refused_blocks(good):
         "far.block": (far, 4),
         "too_far.block": (far[2:], 1),
         "coefficient.block": (put(first_piece(y) + 2, limits.COEF_INTS[-1] + 1), 5),
-        "mmr.block": (put(first_piece(cb), limits.MMR), 6),
+        "method.block": (put(first_piece(cb), limits.MMR + 1), 5),
+        "luma_mmr.block": (put(first_piece(y), limits.MMR), 5),
     }
 
 
@@ -120,6 +150,7 @@ def picture_files():
         "small_enhancement.yuv": raw(other),
         "eight_bit.yuv": raw([s // 4 for s in small]),
         "in_place.yuv": raw(other),
+        "mmr_place.yuv": raw(other),
         "two.yuv": raw(small + other),
         "wide.yuv": raw(wide),
         "tiny.yuv": raw(small[:6]),
@@ -152,6 +183,14 @@ def written_groups():
         Group("version_two.block", "small.yuv", "small_enhancement.yuv", "version_two.yuv", None),
         Group("version_two.block", "two.yuv", "none", "version_two.yuv", None),
         Group("alike_two.block", "small.yuv", "none", "alike_two.yuv", None),
+        Group("mmr.block", "small.yuv", "small_enhancement.yuv", "mmr.yuv", None),
+        Group("mmr.block", "two.yuv", "none", "mmr.yuv", None),
+        Group("mmr_cb.block", "small.yuv", "small_enhancement.yuv", "mmr_cb.yuv", None),
+        Group("mmr_eight_bit.block", "eight_bit.yuv", "eight_bit.yuv", "mmr_eight_bit.yuv", None),
+        Group("mmr_wide.block", "wide.yuv", "none", "mmr_wide.yuv", None),      # bands, and the widest rows' ends
+        Group("mmr_tiny.block", "tiny.yuv", "none", "mmr_tiny.yuv", None),
+        Group("mmr_two.block", "small.yuv", "small_enhancement.yuv", "mmr_two.yuv", None),
+        Group("mmr.block", "mmr_place.yuv", "none", "mmr_place.yuv", None),
         Group("small.block", "in_place.yuv", "none", "in_place.yuv", None),
         Group("small.block", "in_place.yuv", "none", OUT, "refused 11 (sample): picture 0, Y row 0"),
     ]
@@ -222,7 +261,8 @@ def all_cases(sources):
     refused = refused_blocks(good)
     for name, (data, number) in refused.items():
         assert block.read(data)[0] == number, name
-    files = {**good_blocks(good), **{name: data for name, (data, _) in refused.items()}, **picture_files()}
+    blocks = good_blocks(good)
+    files = {**blocks, **mmr_blocks(blocks), **{name: data for name, (data, _) in refused.items()}, **picture_files()}
     groups = [Group(*SOURCES, "hdr.yuv", None)] + written_groups()
     groups += [Group(name, "base.yuv", "none", OUT, "refused %d (" % number)
                for name, (_, number) in refused.items()]

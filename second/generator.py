@@ -33,3 +33,10 @@ class Generator:
 
     def one_in(self, n):
         return self.below(n) == 0
+
+    def shuffled(self, items):
+        items = list(items)
+        for i in range(len(items) - 1, 0, -1):
+            j = self.below(i + 1)
+            items[i], items[j] = items[j], items[i]
+        return items

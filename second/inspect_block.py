@@ -12,6 +12,7 @@ import block
 import composer
 import inspect_plot
 import limits
+import plan_text
 import words
 
 USE = ["use: inspect [--rules] [--plot] BLOCK...", "not shown"]
@@ -19,7 +20,7 @@ USE = ["use: inspect [--rules] [--plot] BLOCK...", "not shown"]
 # A field of a section: its first byte there and its length, its indices after the section's, what it may hold in words.
 Field = namedtuple("Field", "at size name indices allowed")
 
-NLQ_NUMBERS = ("hdr_in_max", "linear_deadzone_slope", "linear_deadzone_threshold")
+SIGNED = ("poly_coef_int", "mmr_constant_int", "mmr_coef_int")
 
 
 class Noted(block._Fields):
@@ -29,6 +30,8 @@ class Noted(block._Fields):
     def __init__(self, section):
         super().__init__(section)
         self.last = 0
+        if len(Noted.sections) == 3:
+            Noted.sections.clear()              # those of a block before
         Noted.sections.append(self)
 
     def take(self, size, signed=False):
@@ -94,7 +97,19 @@ def header_fault(head):
             return "%s is %d, allowed %s" % (name, value, said(allowed))
 
 
-def section_fields(section, plan, version):
+def coefficients(order, mapping_idc):
+    """The names of a piece's coefficients with the standard's indices: mmr_coef has the order from 1 and the term."""
+    for at, name in enumerate(plan_text.coef_names(order, mapping_idc)):
+        if name == "mmr_constant":
+            yield (name,)
+        elif name == "mmr_coef":
+            i, j = divmod(at - 1, limits.MMR_TERMS)
+            yield name, i + 1, j
+        else:
+            yield name, at
+
+
+def section_fields(section, cmp, plan, version):
     """The fields in order, as far as the section's own numbers say where they are."""
     sample = below(limits.samples(plan.BL_bit_depth))
     fraction = below(limits.fractions(plan.coefficient_log2_denom))
@@ -110,25 +125,26 @@ def section_fields(section, plan, version):
     for i in range(limits.pivots(n)):
         yield field(2, "pred_pivot_value", sample, i)
     for piece in range(limits.carried(n, version)):
-        yield field(1, "mapping_idc", listed(limits.MAPPING), piece)
+        idc = section[at]
+        yield field(1, "mapping_idc", listed(limits.methods(cmp)), piece)
         order = section[at]
-        yield field(1, "poly_order_minus1", spanned(limits.ORDERS), piece)
-        for i in range(limits.coefs(order)):
-            yield field(1, "poly_coef_int", spanned(limits.COEF_INTS), piece, i)
-            yield field(4, "poly_coef", fraction, piece, i)
+        yield field(1, plan_text.ORDER_NAMES[idc], spanned(limits.orders(idc)), piece)
+        for name, *indices in coefficients(order, idc):
+            yield field(limits.integer_bytes(idc), name + "_int", spanned(limits.integers(idc)), piece, *indices)
+            yield field(4, name, fraction, piece, *indices)
     yield field(2, "nlq_offset", sample)
-    for name in NLQ_NUMBERS:
+    for name in plan_text.NLQ_NUMBERS:
         yield field(1, name + "_int", spanned(limits.NLQ_INTS))
         yield field(4, name, fraction)
 
 
 def value_of(section, field):
     """What stands at a field's place."""
-    return int.from_bytes(section[field.at:field.at + field.size], "big", signed=field.name == "poly_coef_int")
+    return int.from_bytes(section[field.at:field.at + field.size], "big", signed=field.name in SIGNED)
 
 
 def section_fault(section, cmp, plan, version, place):
-    for field in section_fields(section, plan, version):
+    for field in section_fields(section, cmp, plan, version):
         if field.at == place:
             name = field.name + "".join("[%d]" % i for i in (cmp,) + field.indices)
             return "%s is %d, allowed %s" % (name, value_of(section, field), field.allowed)
@@ -158,19 +174,29 @@ def fault(number, data):
     return begin + place, section_fault(data[begin:end], cmp, plan, version, place)
 
 
-def fixed_point(values, name, piece=(), i=()):
+def fixed_point(values, name, piece=(), indices=()):
     """A number with a fraction: its two fields, and about what it comes to."""
     d = values["d"]
-    integer, part = values[(name + "_int",) + piece + i], values[(name,) + piece + i]
-    index = "".join("[%d]" % k for k in i)
+    integer, part = values[(name + "_int",) + piece + indices], values[(name,) + piece + indices]
+    index = "".join("[%d]" % k for k in indices)
     return "%s_int%s %d + %s%s %d/2^%d, about %s" % (
         name, index, integer, name, index, part, d, fraction((integer << d) + part, d))
+
+
+def piece_lines(values, piece):
+    idc = values["mapping_idc", piece]
+    order = values[plan_text.ORDER_NAMES[idc], piece]
+    yield "  piece %d" % piece
+    yield "    mapping_idc %d" % idc
+    yield "    %s %d" % (plan_text.ORDER_NAMES[idc], order)
+    for name, *indices in coefficients(order, idc):
+        yield "    " + fixed_point(values, name, (piece,), tuple(indices))
 
 
 def section_lines(section, cmp, plan, version):
     """Every field of a section as its bytes have it, and the pivots that come of them."""
     values = {(field.name,) + field.indices: value_of(section, field)
-              for field in section_fields(section, plan, version)}
+              for field in section_fields(section, cmp, plan, version)}
     values["d"] = plan.coefficient_log2_denom
     n = values[("num_pivots_minus2",)]
     pivots = composer.assign_pivot_values(plan.pred_pivot_value, plan.num_pivots_minus2)[cmp]
@@ -178,14 +204,9 @@ def section_lines(section, cmp, plan, version):
     yield "  pred_pivot_value " + " ".join("%d" % values["pred_pivot_value", i] for i in range(limits.pivots(n)))
     yield "  pivot_value " + " ".join("%d" % pivot for pivot in pivots)
     for piece in range(limits.carried(n, version)):
-        yield "  piece %d" % piece
-        yield "    mapping_idc %d" % values["mapping_idc", piece]
-        order = values["poly_order_minus1", piece]
-        yield "    poly_order_minus1 %d" % order
-        for i in range(limits.coefs(order)):
-            yield "    " + fixed_point(values, "poly_coef", (piece,), (i,))
+        yield from piece_lines(values, piece)
     yield "  nlq_offset %d" % values[("nlq_offset",)]
-    for name in NLQ_NUMBERS:
+    for name in plan_text.NLQ_NUMBERS:
         yield "  " + fixed_point(values, name)
 
 

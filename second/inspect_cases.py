@@ -8,8 +8,9 @@ from itertools import accumulate
 
 import block
 import limits
-from block_cases import Base, last_piece, one_bad_length
+from block_cases import Base, last_piece, longest_mmr_plan, one_bad_length
 from composer import Plan
+from generator import Generator
 from sample_cases import Nlq, Section, set_section
 
 # `number` is the answer that the block is to show: 0 where it is read.
@@ -68,7 +69,7 @@ def second_blocks(good):
     return [
         Shown("version_two", base.data, 0),
         Shown("mapping_above", beyond(y, "idc", limits.MMR), 5),
-        Shown("mmr_above", beyond(cb, "idc", limits.MMR), 6),
+        Shown("method_above", beyond(cb, "idc", limits.MMR + 1), 5),
         Shown("order_above", beyond(cr, "order", limits.ORDERS[-1] + 1), 5),
         Shown("coefficient_above", beyond(cr, "c2_int", limits.COEF_INTS[-1] + 1), 5),
         Shown("fraction_above", beyond(y, "c1_fraction", limits.fractions(13).stop), 5),
@@ -76,6 +77,63 @@ def second_blocks(good):
         Shown("two_as_one", bytes(base.changed(base.put(version=1))), 5),
         Shown("one_as_two", good[:-3] + bytes([2]) + good[-2:], 5),
         Shown("cut_two", one_bad_length(base, 1, lambda section: section[:-18]), 3),
+    ]
+
+
+def numbers(*given):
+    """Of an MMR piece: these, in units of 1/8, and zeros up to as many as the next order has."""
+    whole = next(count for count in (8, 15, 22) if len(given) <= count)
+    return [z * ONE // 8 for z in given] + [0] * (whole - len(given))
+
+
+def mmr_shown_plan():
+    """Depth 8: MMR of the first order with an end and beside it, and of the highest, all numbers its own."""
+    top = limits.coefficients(13, limits.MMR)[-1]
+    return plan_of([
+        ((0, 255), [(0, ONE)]),
+        ((20, 200, 35), [numbers(1, 2, 5, -1, 1), [-ONE // 2, limits.MMR_INTS[0] << 13, top, 5, -3, 1, ONE, -ONE]]),
+        ((10, 245), [[(-1) ** i * ONE // (2 + i) + 37 * i for i in range(limits.COEF_PLACES)]]),
+    ])
+
+
+def mmr_two_plan():
+    """Version 2: polynomials and MMR in turn, luma and chroma clamped, one chroma component without MMR."""
+    return plan_of([
+        ((64, 128), [(0, ONE), (ONE // 2, 0)]),
+        ((30, 60, 60), [numbers(2, 3, 1), (0, ONE, ONE // 4), numbers(0, 4, 2, -1, 0, 3, 0, 2, 0, 1, 0, 0, -2, 0, 1)]),
+        ((0, 128), [(ONE // 8, ONE // 2), (ONE, -ONE // 4)]),
+    ])
+
+
+def mmr_blocks():
+    """Blocks with MMR pieces, and for each of their fields one that is refused at it."""
+    plan, second = mmr_shown_plan(), mmr_two_plan()
+    base = Base(0, block.write(plan), plan)
+    longest = longest_mmr_plan(10, 32, Generator(207), 2)
+
+    def beyond(field, value):
+        return bytes(base.changed(base.put_all([(field, value)])))
+
+    integer, fraction = limits.MMR_INTS[-1] + 1, limits.fractions(13).stop
+    return [
+        Shown("mmr", base.data, 0),
+        Shown("mmr_two", block.write(second, 2), 0),
+        Shown("mmr_longest", block.write(longest, 2), 0),
+        Shown("mmr_method", beyond("s1_p1_idc", limits.MMR + 1), 5),
+        Shown("mmr_order", beyond("s1_p1_mmr_order", limits.MMR_ORDERS[-1] + 1), 5),
+        Shown("mmr_order_255", beyond("s2_p0_mmr_order", 255), 5),
+        Shown("mmr_constant", beyond("s1_p0_mmr0_int", integer), 5),
+        Shown("mmr_constant_below", beyond("s2_p0_mmr0_int", -integer - 1), 5),
+        Shown("mmr_constant_least", beyond("s1_p1_mmr0_int", -1 << 31), 5),
+        Shown("mmr_constant_fraction", beyond("s1_p1_mmr0_fraction", fraction), 5),
+        Shown("mmr_coefficient", beyond("s1_p1_mmr1_int", integer), 5),
+        Shown("mmr_coefficient_below", beyond("s2_p0_mmr11_int", -integer - 1), 5),
+        Shown("mmr_coefficient_last", beyond("s2_p0_mmr21_int", (1 << 31) - 1), 5),
+        Shown("mmr_coefficient_fraction", beyond("s2_p0_mmr21_fraction", (1 << 32) - 1), 5),
+        Shown("mmr_offset", beyond("s1_offset", 256), 5),
+        Shown("mmr_cut", one_bad_length(base, 1, lambda section: section[:-20]), 3),
+        Shown("mmr_cut_coefficient", one_bad_length(base, 2, lambda section: section[:100]), 3),
+        Shown("mmr_left_over", one_bad_length(base, 2, lambda section: section + bytes(8)), 3),
     ]
 
 
@@ -126,7 +184,7 @@ def all_blocks(good):
         Shown("coefficient_64", beyond(idc + 2, limits.COEF_INTS), 5),
         Shown("coefficient_minus_65", put(idc + 2, limits.COEF_INTS[0] - 1), 5),
         Shown("fraction", put(idc + 3, 255), 5),
-        Shown("mmr", put(chroma_idc, limits.MMR), 6),
+        Shown("method", put(chroma_idc, limits.MMR + 1), 5),
         Shown("mmr_for_luma", put(idc, limits.MMR), 5),
         Shown("offset", put(nlq, 1 << depth >> 8), 5),
         Shown("maximum", beyond(nlq + 2, limits.NLQ_INTS), 5),
@@ -139,6 +197,7 @@ def all_blocks(good):
         Shown("behind_zeros", bytes(70000) + good, 0),
         Shown("refused_behind_zeros", bytes(70000) + cut(cb, 5), 3),
         *second_blocks(good),
+        *mmr_blocks(),
     ]
     for one in shown:
         assert block.read(one.data)[0] == one.number, one.name
@@ -149,7 +208,8 @@ def arguments(blocks):
     """The words: every block, then all that else a word can be."""
     return [shown.name for shown in blocks] + [
         "--rules", "--plot", "block", "--plot", "clamped", "--plot", "version_two", "--plot", "mmr",
-        "--plot", "missing", "missing", "block/", ".", "--plot"]
+        "--plot", "mmr_two", "--plot", "mmr_longest", "--plot", "method", "--plot", "missing", "missing", "block/", ".",
+        "--plot"]
 
 
 def reader(blocks):

@@ -1,7 +1,8 @@
 """The picture that `inspect --plot` draws of a plan's mappings: an SVG, one panel a component.
 
 A panel is 262,144 by 65,536 units, so that every number in it is whole: a code is 256 units wide, or 1,024 where there
-are 256 codes, and a mapped sample v stands v units above the panel's lower edge.
+are 256 codes, and a mapped sample v stands v units above the panel's lower edge. Where a component has an MMR piece,
+its panel is a slice: luma and the other chroma sample are both at the middle code.
 """
 
 import composer
@@ -53,15 +54,26 @@ def curves(mapped, step):
     return '<path class="v" d="M%s"/><path class="x" d="%s"/>' % (curve, ends)
 
 
+def mapped_samples(plan, pivot_value, cmp, codes):
+    """Of each code of the component, with luma and the other chroma sample at the middle code."""
+    sX = [codes[len(codes) // 2]] * 3
+    return [composer.map_sample(plan, pivot_value, cmp, sX[:cmp] + [code] + sX[cmp + 1:]) for code in codes]
+
+
+def slice_words(plan, cmp, codes):
+    """Where the panel cuts through what an MMR piece maps."""
+    return ", luma and %s at %d" % (NAMES[3 - cmp], codes[len(codes) // 2]) if composer.has_mmr(plan, cmp) else ""
+
+
 def panel(plan, cmp, version):
     pivot_value = composer.assign_pivot_values(plan.pred_pivot_value, plan.num_pivots_minus2)
     codes = limits.samples(plan.BL_bit_depth)
-    mapped = [composer.map_sample(plan, pivot_value, cmp, code) for code in codes]
+    mapped = mapped_samples(plan, pivot_value, cmp, codes)
     step = PANEL // len(codes)
     pivots, carried = pivot_value[cmp], limits.carried(plan.num_pivots_minus2[cmp], version)
     yield ('<g transform="translate(70 %d)"><text class="t" y="-28">%s: pieces %d, codes 0 to %d, '
-           'mapped samples %d to %d</text><text y="-9">pivots %s'
-           % (58 + 298 * cmp, NAMES[cmp], carried, codes[-1], min(mapped), max(mapped),
+           'mapped samples %d to %d%s</text><text y="-9">pivots %s'
+           % (58 + 298 * cmp, NAMES[cmp], carried, codes[-1], min(mapped), max(mapped), slice_words(plan, cmp, codes),
               " ".join("%d" % pivot for pivot in pivots)))
     yield ('</text><svg width="860" height="215" viewBox="0 0 262144 65536"><path class="o" d="M0 0h262144v65536H0"/>'
            + pieces(pivots, step, carried) + GRID + curves(mapped, step)

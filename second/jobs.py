@@ -2,11 +2,11 @@
 
 import limits
 from block import header_in_range
-from composer import compose_row_pairs, enhancement_used, map_sample, row_pair_samples
+from composer import compose_row_pairs, enhancement_used, map_place, row_pair_samples
 from limits import PIECE_PLACES
 
 
-def job(plan, first, count, base, enhancement, output, mapping=map_sample):
+def job(plan, first, count, base, enhancement, output, mapping=map_place):
     """A job with equal tickets and with marks of the right length.
 
     Give (0, the new output run), or (7, 9, 10 or 11, None).
@@ -34,7 +34,7 @@ def refusal(plan, open_ticket, ticket, first, count, base, enhancement, output, 
 
 
 def breaks_rule_7(plan):
-    """A range, a mapping_idc other than 0, or an unused place that is not 0."""
+    """A range, a mapping_idc that its component does not have, or an unused place that is not 0."""
     if not header_in_range(plan):
         return True
     return not all(_component_in_range(plan, cmp) for cmp in range(3))
@@ -60,20 +60,19 @@ def _pivots_in_range(plan, cmp, n):
 
 
 def _piece_in_range(plan, cmp, piece):
-    allowed = limits.coefficients(plan.coefficient_log2_denom)
-    order = plan.poly_order_minus1[cmp][piece]
-    coef = plan.fp_poly_coef[cmp][piece]
-    if plan.mapping_idc[cmp][piece] not in limits.MAPPING or order not in limits.ORDERS:
+    idc, order = plan.mapping_idc[cmp][piece], plan.order_minus1[cmp][piece]
+    if idc not in limits.methods(cmp) or order not in limits.orders(idc):
         return False
-    used = limits.coefs(order)
+    coef = plan.fp_coef[cmp][piece]
+    allowed, used = limits.coefficients(plan.coefficient_log2_denom, idc), limits.coefs(order, idc)
     return (all(coef[i] in allowed for i in range(used))
             and not any(coef[used:]))
 
 
 def _piece_is_zero(plan, cmp, piece):
     return (plan.mapping_idc[cmp][piece] == 0
-            and plan.poly_order_minus1[cmp][piece] == 0
-            and not any(plan.fp_poly_coef[cmp][piece]))
+            and plan.order_minus1[cmp][piece] == 0
+            and not any(plan.fp_coef[cmp][piece]))
 
 
 def _quantization_in_range(plan, cmp):

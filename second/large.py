@@ -5,17 +5,21 @@
 A component's samples have few values: what each base code is mapped to, what each
 enhancement code adds and what a sum of both comes to is worked out once, by composer's
 own functions, and then looked up.  4096 x 2304 with an enhancement picture takes some
-seconds.  It says nothing: files that compose_file refuses stop it.  selftest.py holds it
-equal to picture.py.
+seconds; with MMR pieces it takes minutes, as there each three samples of a place are
+mapped for themselves.  It says nothing: files that compose_file refuses stop it.
+selftest.py holds it equal to picture.py.
 """
 
 import array
+import functools
 import sys
 
 import block
 import composer
 import limits
 import picture
+
+REMEMBERED = 1 << 18        # of the mapped samples that go by three samples
 
 
 def samples(data):
@@ -38,24 +42,39 @@ class Finished(dict):
         return self[h]
 
 
-def tables(plan, cmp, enhanced):
-    """What each base code is mapped to, and what each enhancement code adds."""
+def down_sampled(plan, base):
+    """The luma of every chroma sample's place."""
+    W, H = plan.width, plan.height
+    return [composer.down_sampled_luma(lambda x, y: base[y * W + x], W, H, i, j)
+            for j in range(H // 2) for i in range(W // 2)]
+
+
+def mapped_plane(plan, cmp, planes):
+    """Every mapped sample of a component; without MMR pieces by a table of codes."""
     pivot_value = composer.assign_pivot_values(plan.pred_pivot_value, plan.num_pivots_minus2)
-    mapped = [composer.map_sample(plan, pivot_value, cmp, s) for s in limits.samples(plan.BL_bit_depth)]
-    added = [composer.residual(plan, cmp, e) for e in limits.samples(plan.EL_bit_depth)] if enhanced else []
-    return mapped, added
+
+    def mapped(*sX):
+        return composer.map_sample(plan, pivot_value, cmp, sX)
+    if composer.has_mmr(plan, cmp):
+        return list(map(functools.lru_cache(REMEMBERED)(mapped), *planes))
+    table = [mapped(s, s, s) for s in limits.samples(plan.BL_bit_depth)]
+    return [table[s] for s in planes[cmp]]
 
 
 def compose(plan, base, enhancement):
     """One picture; `enhancement` is empty where none is used."""
     output, finished = array.array("H"), Finished(plan.hdr_bit_depth)
     luma = plan.width * plan.height
-    for cmp, (begin, end) in enumerate(((0, luma), (luma, luma * 5 // 4), (luma * 5 // 4, luma * 3 // 2))):
-        mapped, added = tables(plan, cmp, len(enhancement) > 0)
+    parts = [slice(0, luma), slice(luma, luma * 5 // 4), slice(luma * 5 // 4, luma * 3 // 2)]
+    chroma = [base[part] for part in parts[1:]]
+    below = down_sampled(plan, base) if any(composer.has_mmr(plan, cmp) for cmp in (1, 2)) else []
+    for cmp, part in enumerate(parts):
+        mapped = mapped_plane(plan, cmp, [below if cmp else base[part]] + chroma)
         if enhancement:
-            output.extend([finished[mapped[s] + added[e]] for s, e in zip(base[begin:end], enhancement[begin:end])])
+            added = [composer.residual(plan, cmp, e) for e in limits.samples(plan.EL_bit_depth)]
+            output.extend([finished[v + added[e]] for v, e in zip(mapped, enhancement[part])])
         else:
-            output.extend([finished[mapped[s]] for s in base[begin:end]])
+            output.extend([finished[v] for v in mapped])
     if sys.byteorder == "big":
         output.byteswap()
     return output.tobytes()

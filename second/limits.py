@@ -43,11 +43,31 @@ def darkest(brightest):
 # A section ------------------------------------------------------------------
 
 N = range(15 + 1)                   # num_pivots_minus2
-MAPPING = (0,)                      # mapping_idc: polynomials
-MMR = 1                             # the mapping_idc that is refused by a number of its own
+POLYNOMIAL, MMR = 0, 1              # mapping_idc (GS CCM 001, table 1)
 ORDERS = range(1 + 1)               # poly_order_minus1
-COEF_INTS = range(-64, 63 + 1)      # the integer part of a coefficient
+MMR_ORDERS = range(2 + 1)           # mmr_order_minus1
+COEF_INTS = range(-64, 63 + 1)      # the integer part of a polynomial's coefficient,
+MMR_INTS = range(-65536, 65535 + 1)     # of an MMR constant or coefficient,
 NLQ_INTS = range(1 + 1)             # and of hdr_in_max, slope and threshold
+
+
+def methods(cmp):
+    """mapping_idc of a component."""
+    return (POLYNOMIAL,) if cmp == 0 else (POLYNOMIAL, MMR)
+
+
+def orders(mapping_idc):
+    """What stands after mapping_idc: poly_order_minus1 or mmr_order_minus1."""
+    return MMR_ORDERS if mapping_idc == MMR else ORDERS
+
+
+def integers(mapping_idc):
+    return MMR_INTS if mapping_idc == MMR else COEF_INTS
+
+
+def integer_bytes(mapping_idc):
+    """How many bytes the integer part of a coefficient has."""
+    return 4 if mapping_idc == MMR else 1
 
 
 def samples(depth):
@@ -59,9 +79,10 @@ def fractions(d):
     return range(1 << d)
 
 
-def coefficients(d):
-    """fp_poly_coef."""
-    return range(COEF_INTS.start << d, COEF_INTS.stop << d)
+def coefficients(d, mapping_idc=POLYNOMIAL):
+    """fp_coef; fp_mmr_constant and fp_mmr_coef."""
+    allowed = integers(mapping_idc)
+    return range(allowed.start << d, allowed.stop << d)
 
 
 def nlq_numbers(d):
@@ -85,29 +106,40 @@ def carried(n, version):
     return pieces(n) - 1 if version == VERSIONS[0] else pieces(n)
 
 
-def coefs(order):
-    return order + 2
+MMR_TERMS = 7                       # of each order
+
+
+def coefs(order, mapping_idc=POLYNOMIAL):
+    """Of a piece of this order, less 1; the MMR constant is one of them, the first."""
+    return 1 + MMR_TERMS * (order + 1) if mapping_idc == MMR else order + 2
 
 
 PIVOT_PLACES = pivots(N[-1])
 PIECE_PLACES = pieces(N[-1])
-COEF_PLACES = coefs(ORDERS[-1])
+COEF_PLACES = coefs(MMR_ORDERS[-1], MMR)
 
 
-def section_bytes(n, order, version):
-    """The length of a section whose pieces all have this order."""
-    return 1 + 2 * pivots(n) + carried(n, version) * (2 + 5 * coefs(order)) + 2 + 3 * 5
+def piece_bytes(order, mapping_idc=POLYNOMIAL):
+    return 2 + coefs(order, mapping_idc) * (integer_bytes(mapping_idc) + 4)
 
 
-def block_bytes(section):
-    """The length of a block of three sections of this length."""
-    return HEADER_BYTES + 3 * section + TRAILER_BYTES
+def section_bytes(n, version, order, mapping_idc=POLYNOMIAL):
+    """The length of a section whose pieces all have this order and method."""
+    return 1 + 2 * pivots(n) + carried(n, version) * piece_bytes(order, mapping_idc) + 2 + 3 * 5
 
 
-# By version.
-SHORTEST_SECTION = {version: section_bytes(N[0], ORDERS[0], version) for version in VERSIONS}
-LONGEST_SECTION = {version: section_bytes(N[-1], ORDERS[-1], version) for version in VERSIONS}
-SHORTEST_BLOCK = {version: block_bytes(SHORTEST_SECTION[version]) for version in VERSIONS}
-LONGEST_BLOCK = {version: block_bytes(LONGEST_SECTION[version]) for version in VERSIONS}
+def block_bytes(sections):
+    return HEADER_BYTES + sum(sections) + TRAILER_BYTES
 
-TEXT_BYTES = 8192                   # of a plan as text (docs/TEXT.md), more than the longest has
+
+def longest_section(cmp, version):
+    return max(section_bytes(N[-1], version, orders(idc)[-1], idc) for idc in methods(cmp))
+
+
+# By version; of the longest sections one for each component.
+SHORTEST_SECTION = {version: section_bytes(N[0], version, ORDERS[0]) for version in VERSIONS}
+LONGEST_SECTIONS = {version: [longest_section(cmp, version) for cmp in range(3)] for version in VERSIONS}
+SHORTEST_BLOCK = {version: block_bytes([SHORTEST_SECTION[version]] * 3) for version in VERSIONS}
+LONGEST_BLOCK = {version: block_bytes(LONGEST_SECTIONS[version]) for version in VERSIONS}
+
+TEXT_BYTES = 32768                  # of a plan as text (docs/TEXT.md), more than the longest has

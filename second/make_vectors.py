@@ -22,6 +22,7 @@ import compose_cases
 import composer
 import inspect_block
 import inspect_cases
+import mmr_cases
 import night_cases
 import nights
 import picture
@@ -177,9 +178,14 @@ def ten_lines_files(outdir):
             os.path.join("ten_lines", "stdout"): b"complete\n" if left == 0 else b""}
 
 
+def all_samples():
+    """The cases of sample_vectors."""
+    return sample_cases.all_cases() + mmr_cases.all_cases()
+
+
 def make(outdir):
     """({path: bytes}, summary lines).  The answers are worked out from stdin."""
-    samples = sample_cases.all_cases()
+    samples = all_samples()
     sample_stdin = sample_stream(samples)
     sample_lines = answers.sample_answers(sample_stdin)
     bases, reads = block_cases.all_cases()
@@ -225,7 +231,7 @@ def sample_summary(cases, lines):
     for case, line in zip(cases, lines):
         if not line.startswith("refused"):
             row_pair = sum(1 for _ in composer.row_pair_samples(case.plan, 0))
-            group = "random plans" if case.kind.startswith("random plan") else "edge cases"
+            group = "random plans" if "random plan" in case.kind else "edge cases"
             composed[group] += case.count * row_pair
     return table("sample_vectors", cases, lines) + [
         "  composed samples: %d from random plans, %d from edge cases"

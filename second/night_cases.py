@@ -9,10 +9,12 @@ output run, and one that marks is seen in the marks and in the rows left.
 from collections import namedtuple
 from itertools import combinations
 
+import limits
 from answers import NO_RUN
 from composer import row_pair_samples
 from generator import Generator
 from limits import DEPTHS, HDR_DEPTHS, denominators
+from mmr_cases import random_mmr_picture, random_mmr_plan, visible_mmr_piece
 from sample_cases import (make_plan, meets_last_piece, plain_sections, plane_size, random_picture, random_plan,
                           random_run, replaced, visible_piece)
 
@@ -445,11 +447,16 @@ WIDTHS = {1: (2, 8, 16, 32), 2: (2, 6, 8, 16), 3: (2, 4, 10), 4: (2, 4, 8), 5: (
           6: (2, 4), 7: (2, 4), 8: (2, 4)}      # by H/2; 3WH/2 is at most 96
 
 
-def random_stock(rows, generator, version=1):
+# How a random night's plan and picture are made.
+POLYNOMIALS, MMR = (random_plan, random_picture), (random_mmr_plan, random_mmr_picture)
+
+
+def random_stock(rows, generator, version=1, makers=POLYNOMIALS):
     """A random plan and picture; at times there is no enhancement."""
+    make_plan_of, make_picture = makers
     shapes = [(width, 2 * rows) for width in WIDTHS[rows]]
-    plan = random_plan(shapes, generator, version)
-    base, enhancement = random_picture(plan, generator)
+    plan = make_plan_of(shapes, generator, version)
+    base, enhancement = make_picture(plan, generator)
     if generator.one_in(6):
         enhancement = []
     return Stock(plan, generator, base, enhancement, version)
@@ -477,14 +484,6 @@ def cover(allowed, generator):
     return parts
 
 
-def shuffled(items, generator):
-    items = list(items)
-    for i in range(len(items) - 1, 0, -1):
-        j = generator.below(i + 1)
-        items[i], items[j] = items[j], items[i]
-    return items
-
-
 def random_rules(generator):
     """One rule to break, at times two or three."""
     rules = {generator.between(7, 11)}
@@ -505,7 +504,7 @@ def mixed_jobs(stock, allowed, number, generator):
             jobs.append(stock.job(*generator.choice(parts)))
         else:
             jobs.append(stock.job(*random_part(allowed, generator)))
-    return shuffled(jobs, generator)
+    return generator.shuffled(jobs)
 
 
 def ignoring(stock, jobs, generator):
@@ -520,7 +519,7 @@ def ignoring(stock, jobs, generator):
             if job.enhancement in (ENHANCEMENT, NO_RUN) else job for job in jobs]
 
 
-def random_night(at, generator, version=1):
+def random_night(at, generator, version=1, makers=POLYNOMIALS):
     """Within the premises of demand 3; two of three nights end complete.
 
     In these one row pair is named late only, so that most of the night has rows
@@ -528,7 +527,7 @@ def random_night(at, generator, version=1):
     a bad base sample.
     """
     rows = 1 + at % 8
-    stock = random_stock(rows, generator, version)
+    stock = random_stock(rows, generator, version, makers)
     allowed = set(range(rows))
     late = set()
     if at // 8 % 3 == 2:
@@ -545,7 +544,8 @@ def random_night(at, generator, version=1):
         last = mixed_jobs(stock, late, number - early, generator)
         jobs += [job if generator.one_in(3) else widened(job, rows, generator)
                  for job in last]
-    made = night("random" + ", version 2" * (version == 2), stock, ignoring(stock, jobs, generator))
+    kind = "random" + ", MMR" * (makers is MMR) + ", version 2" * (version == 2)
+    made = night(kind, stock, ignoring(stock, jobs, generator))
     return made._replace(marks=[generator.below(256) for _ in range(rows)])
 
 
@@ -582,6 +582,53 @@ def last_pivot_nights(generator):
             stock.job(0, 2), stock.job(0, 1), stock.breaking((8,), generator), stock.job(1, 2),
             stock.breaking((11,), generator), stock.job(2, 1, base=OTHER), stock.job(3, 1)]))
     return nights + [random_night(at, generator, 2) for at in range(1, 8, 2)]
+
+
+# MMR ------------------------------------------------------------------------
+
+def mmr_stock(depth, d, width, height, generator, flag=0, version=1):
+    """Chroma of MMR pieces that luma moves much, and of other orders in Cb and Cr."""
+    sections = plain_sections(depth, d, generator)
+    for cmp, order in ((1, 1 + d % 3), (2, 1 + (d + 1) % 3)):
+        coef = visible_mmr_piece(d, order, generator)
+        coef[1] = 1 << (d - 1)
+        pieces = [coef, visible_mmr_piece(d, 3, generator), visible_piece(d, 1, generator)]
+        sections[cmp] = sections[cmp]._replace(pieces=pieces[:limits.carried(1, version)])
+    if version == 2:
+        sections[0] = sections[0]._replace(pieces=sections[0].pieces + [visible_piece(d, 2, generator)])
+    return Stock(make_plan(depth, d, 12, width, height, sections, flag), generator, version=version)
+
+
+def mmr_nights(generator):
+    """The worked case, jobs again and overlapping, other samples between, and luma of other row pairs that is bad."""
+    nights = []
+    for depth, d, width, flag, version in ((10, 15, 4, 0, 1), (8, 32, 2, 1, 1), (8, 13, 8, 0, 2), (10, 26, 4, 0, 2)):
+        stock = mmr_stock(depth, d, width, 4, generator, flag, version)
+        nights.append(night("MMR, worked case", stock, [
+            stock.job(0, 1), stock.job(0, 1), stock.job(1, 1), stock.job(2, 1)]))
+        stock = mmr_stock(depth, d, min(width, 4), 8, generator, flag, version)
+        nights.append(night("MMR, replayed", stock, [
+            stock.job(0, 2), stock.job(1, 2), stock.breaking((8,), generator), stock.job(3, 1, base=OTHER),
+            stock.breaking((9,), generator), stock.job(2, 2), stock.job(3, 1, enhancement=NO_RUN),
+            stock.breaking((11,), generator), stock.job(1, 1, base=OTHER), stock.job(0, 4)]))
+        nights.append(luma_outside_night(mmr_stock(depth, d + 1 - d // 32, 4, 8, generator, flag, version), generator))
+    return nights
+
+
+def luma_outside_night(stock, generator):
+    """Rule 11 looks at the job's row pairs alone, and chroma row k at luma rows 2k and 2k + 1 alone."""
+    top, width = 1 << stock.plan.BL_bit_depth, stock.plan.width
+    jobs = []
+    for k in (1, 2):
+        for row in (2 * k - 1, 2 * k, 2 * k + 1, 2 * k + 2):
+            bad = stock.add(replaced(stock.runs[BASE], row * width + generator.below(width), top))
+            jobs.append(stock.job(k, 1, base=bad))
+    return night("MMR, luma outside", stock, jobs + [stock.job(0, 4)])
+
+
+def random_mmr_nights(generator, number):
+    """Both versions in turn."""
+    return [random_night(at, generator, 1 + at % 2, MMR) for at in range(number)]
 
 
 def plane(stock, cmp):
@@ -643,5 +690,7 @@ def all_nights():
         + ticket_nights(Generator(313))
         + random_nights(Generator(314), 64)
         + free_nights(Generator(315), 16)
-        + last_pivot_nights(Generator(316)))
+        + last_pivot_nights(Generator(316))
+        + mmr_nights(Generator(317))
+        + random_mmr_nights(Generator(318), 24))
     return [trimmed(one) for one in nights]

@@ -12,7 +12,7 @@ from block_cases import HEADER_VALUES, denominator_values, depth_values, luminan
 from generator import Generator
 from limits import N, denominators
 from places import PIECE, PLACES, changed, get, is_signed
-from sample_cases import Nlq, Section, make_plan
+from sample_cases import PIECES, Nlq, Section, make_plan
 
 Group = namedtuple("Group", "plan cases version")       # the version of the block that the plan is read from
 Case = namedtuple("Case", "kind edits")
@@ -34,17 +34,22 @@ def make_case(kind, plan, edits, number=None):
     return Case(kind, edits)
 
 
-def base_plan(depth, d, sizes, generator, version=1):
-    """A plan with these n; every place that is used is not 0, so that none can be left out."""
+def base_plan(depth, d, sizes, generator, version=1, counts=None):
+    """A plan with these n; every place that is used is not 0, so that none can be left out.
+
+    `counts` gives how many numbers a piece of a component has; without it all are polynomials.
+    """
     small = d - SPARE
     sections = []
-    for n in sizes:
+    for cmp, n in enumerate(sizes):
         pivots = [1 + generator.below(9)]
         while len(pivots) < limits.pivots(n):
             pivots.append(pivots[-1] + generator.between(1, limits.samples(depth)[-1]))
-        pieces = [[nonzero(limits.coefficients(small), generator)
-                   for _ in range(limits.coefs((n + piece) % 2))]
-                  for piece in range(limits.carried(n, version))]
+        pieces = []
+        for piece in range(limits.carried(n, version)):
+            count = counts(cmp, piece) if counts and cmp else limits.coefs((n + piece) % 2)
+            allowed = limits.coefficients(small, PIECES[count][0])
+            pieces.append([nonzero(allowed, generator) for _ in range(count)])
         numbers = [nonzero(limits.nlq_numbers(small), generator) for _ in range(3)]
         sections.append(Section(pivots, pieces, Nlq(generator.between(1, 200), *numbers)))
     return make_plan(depth, d, generator.choice(limits.HDR_DEPTHS), 192, 108, sections)
@@ -79,12 +84,12 @@ def header_cases(plan):
 
 
 def is_used(plan, place):
-    """Whether n, and for a coefficient the order, say that the place is used."""
+    """Whether n, and for a coefficient the method and the order, say that the place is used."""
     name, cmp, *at = place
     n = plan.num_pivots_minus2[cmp]
     if name == "pred_pivot_value":
         return at[0] < limits.pivots(n)
-    if name == "fp_poly_coef" and at[1] >= limits.coefs(plan.poly_order_minus1[cmp][at[0]]):
+    if name == "fp_coef" and at[1] >= limits.coefs(plan.order_minus1[cmp][at[0]], plan.mapping_idc[cmp][at[0]]):
         return False
     return not at or at[0] < limits.pieces(n)
 
@@ -99,14 +104,16 @@ def used_edges(plan, place):
                 + [(value, 0) for value in (n, n + 1, N[-1] - 1, N[-1]) if n <= value <= N[-1]]
                 + [(value, 7) for value in (N[-1] + 1, N[-1] + 2, 255)])
     if name == "mapping_idc":
-        return [(limits.MMR, 7), (2, 7), (255, 7)]
-    if name == "poly_order_minus1":
-        other = (0, 7) if get(plan, place) else (1, 0)
-        return [other, (limits.ORDERS[-1] + 1, 7), (255, 7)]
-    if name == "fp_poly_coef":
-        allowed = limits.coefficients(d)
-        return [(allowed[0] - 1, 7), (allowed[0], 0), (allowed[-1], 0), (allowed[-1] + 1, 7),
-                (LOWEST if place[2] % 2 else HIGHEST, 7)]
+        # the numbers of a polynomial are some of MMR, but not the other way round
+        idc = get(plan, place)
+        other = (limits.POLYNOMIAL, 7) if idc == limits.MMR else (limits.MMR, 0 if place[1] else 7)
+        return [other, (2, 7), (255, 7)]
+    if name == "order_minus1":
+        allowed = limits.orders(plan.mapping_idc[place[1]][place[2]])
+        return ([(order, 0 if order > get(plan, place) else 7) for order in allowed if order != get(plan, place)]
+                + [(allowed[-1] + 1, 7), (255, 7)])
+    if name == "fp_coef":
+        return coefficient_edges(place, plan.mapping_idc[place[1]][place[2]], d)
     if name in ("pred_pivot_value", "nlq_offset"):
         top = limits.samples(depth)[-1]
         return [(0, 0), (top, 0), (top + 1, 7), (65535, 7)]
@@ -114,18 +121,41 @@ def used_edges(plan, place):
     return [(0, 0), (top, 0), (top + 1, 7), (1 << 63, 7), ((1 << 64) - 1, 7)]
 
 
+def coefficient_edges(place, mapping_idc, d):
+    """All edges of a polynomial's number; of MMR, which has many, one good and one bad, the other ones in the next."""
+    allowed = limits.coefficients(d, mapping_idc)
+    if mapping_idc == limits.MMR:
+        return [[(allowed[0] - 1, 7), (allowed[-1], 0)], [(allowed[0], 0), (allowed[-1] + 1, 7)],
+                [(allowed[-1] + 1, 7), (allowed[-1], 0)], [(LOWEST, 7), (allowed[0], 0)],
+                [(HIGHEST, 7), (0, 0)]][(place[2] + place[3]) % 5]
+    return [(allowed[0] - 1, 7), (allowed[0], 0), (allowed[-1], 0), (allowed[-1] + 1, 7),
+            (LOWEST if place[2] % 2 else HIGHEST, 7)]
+
+
 def unused_edges(place, number):
-    """A place that is not used has to be 0: the least beside it, and one far away."""
+    """A place that is not used has to be 0: the least beside it, and one far away; of MMR's own places one of both."""
     if is_signed(place):
-        return [((1, -1)[number % 2], 7), ((HIGHEST, LOWEST, 1 << 32)[number % 3], 7)]
+        edges = [((1, -1)[number % 2], 7), ((HIGHEST, LOWEST, 1 << 32)[number % 3], 7)]
+        return edges[number % 2:][:1] if is_of_mmr(place) else edges
     return [(1, 7), (65535 if place[0] == "pred_pivot_value" else 255, 7)]
 
 
-def place_cases(plan):
-    """Every place of the three components, by itself."""
+def is_of_mmr(place):
+    """Whether only MMR pieces have the place."""
+    return place[0] == "fp_coef" and place[3] >= limits.coefs(limits.ORDERS[-1])
+
+
+def in_turn(place):
+    """Of the places that only MMR has one of a piece, in the next piece another."""
+    _, cmp, piece, i = place
+    return (5 * piece + cmp + i) % (limits.COEF_PLACES - limits.coefs(limits.ORDERS[-1])) == 0
+
+
+def place_cases(plan, of_mmr=in_turn):
+    """Every place of the three components, by itself; of those that only MMR has where `of_mmr` says so."""
     cases = []
     for number, place in enumerate(PLACES):
-        if len(place) == 1:
+        if len(place) == 1 or is_of_mmr(place) and not of_mmr(place):
             continue
         if is_used(plan, place):
             kind, edges = place[0] + ", used", used_edges(plan, place)
@@ -137,10 +167,9 @@ def place_cases(plan):
 
 # Several places -------------------------------------------------------------
 
-def piece_edits(cmp, piece, order, coefs):
-    """A piece of polynomials."""
-    return ([(("mapping_idc", cmp, piece), 0), (("poly_order_minus1", cmp, piece), order)]
-            + [(("fp_poly_coef", cmp, piece, i), value) for i, value in enumerate(coefs)])
+def piece_edits(cmp, piece, idc, order, coefs):
+    return ([(("mapping_idc", cmp, piece), idc), (("order_minus1", cmp, piece), order)]
+            + [(("fp_coef", cmp, piece, i), value) for i, value in enumerate(coefs)])
 
 
 def grown_cases(plan, cmp):
@@ -152,13 +181,13 @@ def grown_cases(plan, cmp):
     top = limits.samples(plan.BL_bit_depth)[-1]
     pivot, piece = ("pred_pivot_value", cmp, limits.pivots(n) - 1), limits.pieces(n) - 1
     good = ([(("num_pivots_minus2", cmp), n), (pivot, top)]
-            + piece_edits(cmp, piece, 1, (allowed[0], allowed[-1], allowed[0])))
+            + piece_edits(cmp, piece, limits.POLYNOMIAL, 1, (allowed[0], allowed[-1], allowed[0])))
     cases = [make_case("one piece more", plan, good, 0),
              make_case("one piece more, n as before", plan, good[1:], 7)]
-    for place, value in ((pivot, top + 1), (("mapping_idc", cmp, piece), limits.MMR),
-                         (("poly_order_minus1", cmp, piece), limits.ORDERS[-1] + 1),
-                         (("poly_order_minus1", cmp, piece), 0),
-                         (("fp_poly_coef", cmp, piece, 2), allowed[-1] + 1)):
+    for place, value in ((pivot, top + 1), (("mapping_idc", cmp, piece), 2 if cmp else limits.MMR),
+                         (("order_minus1", cmp, piece), limits.ORDERS[-1] + 1),
+                         (("order_minus1", cmp, piece), 0),
+                         (("fp_coef", cmp, piece, 2), allowed[-1] + 1)):
         cases.append(make_case("one piece more, a fault", plan, good + [(place, value)], 7))
     return cases
 
@@ -168,8 +197,9 @@ def shrunk_cases(plan, cmp):
     n = plan.num_pivots_minus2[cmp] - 1
     if n not in N:
         return []
+    used = limits.coefs(plan.order_minus1[cmp][n + 2], plan.mapping_idc[cmp][n + 2])
     freed = ([(("pred_pivot_value", cmp, limits.pivots(n)), 0)]
-             + piece_edits(cmp, limits.pieces(n), 0, (0, 0, 0)))
+             + piece_edits(cmp, limits.pieces(n), limits.POLYNOMIAL, 0, [0] * used))
     smaller = [(("num_pivots_minus2", cmp), n)]
     cases = [make_case("one piece less", plan, smaller + freed, 0)]
     for place, _ in freed:
@@ -183,7 +213,9 @@ def order_cases(plan, cmp, first=0):
     allowed = limits.coefficients(plan.coefficient_log2_denom)
     cases = []
     for piece in range(first, limits.pieces(plan.num_pivots_minus2[cmp])):
-        order, third = ("poly_order_minus1", cmp, piece), ("fp_poly_coef", cmp, piece, 2)
+        if plan.mapping_idc[cmp][piece] == limits.MMR:
+            continue
+        order, third = ("order_minus1", cmp, piece), ("fp_coef", cmp, piece, 2)
         cases += [make_case("order and third coefficient", plan, [(order, value), (third, z)],
                             number)
                   for value, z, number in ((1, allowed[-1], 0), (1, allowed[-1] + 1, 7),
@@ -196,7 +228,8 @@ def rescaled_cases(plan, cmp):
     cases = []
     for d in denominators(plan.EL_bit_depth):
         if d >= plan.coefficient_log2_denom:
-            for place, allowed in ((("fp_poly_coef", cmp, 0, 1), limits.coefficients(d)),
+            idc = plan.mapping_idc[cmp][0]
+            for place, allowed in ((("fp_coef", cmp, 0, 1), limits.coefficients(d, idc)),
                                    (("fp_hdr_in_max", cmp), limits.nlq_numbers(d))):
                 cases += [make_case("d and a number", plan,
                                     [(("coefficient_log2_denom",), d), (place, value)], number)
@@ -206,8 +239,8 @@ def rescaled_cases(plan, cmp):
 
 def mended_cases(plan, cmp):
     """Edits are made in order, so a later one mends; two faults are one answer."""
-    n, order = ("num_pivots_minus2", cmp), ("poly_order_minus1", cmp, 0)
-    bad_n, bad_order = (n, N[-1] + 1), (order, limits.ORDERS[-1] + 1)
+    n, order = ("num_pivots_minus2", cmp), ("order_minus1", cmp, 0)
+    bad_n, bad_order = (n, N[-1] + 1), (order, limits.MMR_ORDERS[-1] + 1)
     good_n, good_order = (n, get(plan, n)), (order, get(plan, order))
     profile = (("ccm_profile",), 2)
     return [make_case("mended", plan, [], 0),
@@ -224,9 +257,10 @@ def random_cases(plan, singles, generator, number):
             for _ in range(number)]
 
 
-def group(depth, d, sizes, generator):
+def group(depth, d, sizes, generator, quarter):
+    """A plan of polynomials; of the places that only MMR has another quarter in each of the four groups."""
     plan = base_plan(depth, d, sizes, generator)
-    singles = place_cases(plan)
+    singles = place_cases(plan, lambda place: (place[2] + place[3]) % 4 == quarter)
     good = [case for case in singles if not jobs.breaks_rule_7(changed(plan, case.edits))]
     cases = header_cases(plan) + singles
     for cmp in range(3):
@@ -252,12 +286,79 @@ def last_piece_group(depth, d, sizes, generator):
     return Group(plan, [case._replace(kind=case.kind + ", version 2") for case in cases], 2)
 
 
+# MMR ------------------------------------------------------------------------
+
+def grown_mmr_cases(plan, cmp):
+    """One MMR piece more, with every number at an end, then one place beyond; luma has none."""
+    n = plan.num_pivots_minus2[cmp] + 1
+    if n not in N:
+        return []
+    piece, allowed = limits.pieces(n) - 1, limits.coefficients(plan.coefficient_log2_denom, limits.MMR)
+    good = [(("num_pivots_minus2", cmp), n), (("pred_pivot_value", cmp, limits.pivots(n) - 1), 1)]
+    cases = []
+    for order in limits.MMR_ORDERS:
+        used = limits.coefs(order, limits.MMR)
+        made = good + piece_edits(cmp, piece, limits.MMR, order, [allowed[-(i % 2)] for i in range(used)])
+        cases.append(make_case("one MMR piece more", plan, made, 0 if cmp else 7))
+        for edit in ((("mapping_idc", cmp, piece), limits.POLYNOMIAL), (("mapping_idc", cmp, piece), limits.MMR + 1),
+                     (("order_minus1", cmp, piece), order - 1 if order else limits.MMR_ORDERS[-1] + 1),
+                     (("fp_coef", cmp, piece, used - 1), allowed[-1] + 1),
+                     (("fp_coef", cmp, piece, used % limits.COEF_PLACES), allowed[0] - 1)):
+            cases.append(make_case("one MMR piece more, a fault", plan, made + [edit], 7))
+    return cases
+
+
+def method_cases(plan, cmp):
+    """Every third piece as each method and order, its numbers cleared; then with one too large, or one too many."""
+    d, cases = plan.coefficient_log2_denom, []
+    large = limits.coefficients(d)[-1] + 1
+    for piece in range(0, limits.pieces(plan.num_pivots_minus2[cmp]), 3):
+        used = limits.coefs(plan.order_minus1[cmp][piece], plan.mapping_idc[cmp][piece])
+        for idc in (limits.POLYNOMIAL, limits.MMR):
+            for order in limits.orders(idc):
+                first = limits.coefs(order, idc)
+                edits = piece_edits(cmp, piece, idc, order, [0] * used)
+                allowed = idc in limits.methods(cmp)
+                cases.append(make_case("other method", plan, edits, 0 if allowed else 7))
+                cases.append(make_case("other method, a large number", plan, edits + [
+                    (("fp_coef", cmp, piece, first - 1), large)], 0 if allowed and idc == limits.MMR else 7))
+                if first < limits.COEF_PLACES:
+                    cases.append(make_case("other method, a number too many", plan, edits + [
+                        (("fp_coef", cmp, piece, first), 1)], 7))
+    return cases
+
+
+def counts_by(first, others):
+    """Every second piece, from `first` on, has all numbers of MMR, the rest have those of `others` in turn."""
+    return lambda cmp, piece: (limits.COEF_PLACES if (piece + cmp) % 2 == first
+                               else others[(piece // 2 + cmp) % len(others)])
+
+
+def mmr_group(depth, d, sizes, first, generator, version=1):
+    """Chroma of MMR pieces, with polynomials between: every place of it, used and not."""
+    plan = base_plan(depth, d, sizes, generator, version, counts_by(first, (8, 15, 2, 15, 3, 8)))
+    near = max(sizes) + 3                       # the places of the first piece that is not used, but not all after it
+    singles = [case for case in place_cases(plan, lambda place: place[2] < near or in_turn(place))
+               if case.edits[0][0][1] in (1, 2)]
+    good = [case for case in singles if not jobs.breaks_rule_7(changed(plan, case.edits))]
+    cases = list(singles)
+    for cmp in range(3):
+        cases += (grown_cases(plan, cmp) + shrunk_cases(plan, cmp) + grown_mmr_cases(plan, cmp)
+                  + method_cases(plan, cmp) + mended_cases(plan, cmp))
+    cases += rescaled_cases(plan, 1) + rescaled_cases(plan, 2)
+    cases += random_cases(plan, good, generator, 30) + random_cases(plan, singles, generator, 10)
+    return Group(plan, [case._replace(kind="MMR: " + case.kind) for case in cases], version)
+
+
 def all_groups():
     """Both depths, d at its ends and between, n at its ends and between in every component."""
-    generator = Generator(401)
-    return [group(10, denominators(10)[0], (0, 3, N[-1]), generator),
-            group(8, denominators(8)[-1], (N[-1], 0, 7), generator),
-            group(10, 23, (1, N[-1], 0), generator),
-            group(8, denominators(8)[0], (2, N[-1] - 1, 5), generator),
+    generator, mmr = Generator(401), Generator(402)
+    return [group(10, denominators(10)[0], (0, 3, N[-1]), generator, 0),
+            group(8, denominators(8)[-1], (N[-1], 0, 7), generator, 1),
+            group(10, 23, (1, N[-1], 0), generator, 2),
+            group(8, denominators(8)[0], (2, N[-1] - 1, 5), generator, 3),
             last_piece_group(10, 24, (N[-1], N[-1] - 1, 0), generator),
-            last_piece_group(8, 22, (0, N[-1], 6), generator)]
+            last_piece_group(8, 22, (0, N[-1], 6), generator),
+            mmr_group(10, denominators(10)[-1], (0, N[-1], N[-1]), 0, mmr),
+            mmr_group(8, denominators(8)[0] + SPARE, (1, N[-1], N[-1]), 1, mmr),
+            mmr_group(10, 25, (2, 1, 4), 0, mmr, 2)]

@@ -13,6 +13,7 @@ HEADER = (
     ("disable_residual_flag", 1, 1), ("W/2", 2, 0), ("H/2", 2, 0),
     ("max_display_mastering_luminance", 2, 2), ("min_display_mastering_luminance", 4, 4))
 NLQ_NUMBERS = ("hdr_in_max", "linear_deadzone_slope", "linear_deadzone_threshold")
+ORDER_NAMES = {limits.POLYNOMIAL: "poly_order_minus1", limits.MMR: "mmr_order_minus1"}
 
 WORD, SIGNED_WORD = re.compile(rb" ([0-9]+)"), re.compile(rb" (-?[0-9]+)")
 NUMBER = re.compile("0|-?[1-9][0-9]*")
@@ -29,10 +30,28 @@ class Fault(Exception):
         self.line = line
 
 
+def coef_names(order, mapping_idc):
+    """The names of a piece's lines with coefficients."""
+    count = limits.coefs(order, mapping_idc)
+    if mapping_idc == limits.MMR:
+        return ["mmr_constant"] + ["mmr_coef"] * (count - 1)
+    return ["poly_coef"] * count
+
+
 # The text of a plan ---------------------------------------------------------
 
 def fixed_point(name, number, d):
     return "%s %d %d" % (name, number >> d, number % (1 << d))
+
+
+def piece_lines(plan, cmp, piece):
+    d, coef = plan.coefficient_log2_denom, plan.fp_coef[cmp][piece]
+    idc, order = plan.mapping_idc[cmp][piece], plan.order_minus1[cmp][piece]
+    yield "piece %d" % piece
+    yield "mapping_idc %d" % idc
+    yield "%s %d" % (ORDER_NAMES[idc], order)
+    for name, number in zip(coef_names(order, idc), coef):
+        yield fixed_point(name, number, d)
 
 
 def section_lines(plan, cmp, version):
@@ -41,12 +60,7 @@ def section_lines(plan, cmp, version):
     yield "num_pivots_minus2 %d" % n
     yield "pred_pivot_value " + " ".join(str(value) for value in plan.pred_pivot_value[cmp][:limits.pivots(n)])
     for piece in range(limits.carried(n, version)):
-        order = plan.poly_order_minus1[cmp][piece]
-        yield "piece %d" % piece
-        yield "mapping_idc %d" % plan.mapping_idc[cmp][piece]
-        yield "poly_order_minus1 %d" % order
-        for number in plan.fp_poly_coef[cmp][piece][:limits.coefs(order)]:
-            yield fixed_point("poly_coef", number, d)
+        yield from piece_lines(plan, cmp, piece)
     yield "nlq_offset %d" % plan.nlq_offset[cmp]
     for name in NLQ_NUMBERS:
         yield fixed_point(name, getattr(plan, "fp_" + name)[cmp], d)
@@ -67,7 +81,7 @@ def text_of(plan, version=limits.VERSIONS[0]):
 # A text to a block ----------------------------------------------------------
 
 class Stopped(Exception):
-    """Nobody can say how many lines follow."""
+    """Nobody can say which lines follow."""
 
 
 class Reader:
@@ -100,7 +114,8 @@ class Reader:
     def number(self, size, signed=False):
         word = self.word(signed)
         value = int(word[:20])                          # as large as that fits nowhere
-        low, high = (-128, 127) if signed else (0, 256 ** size - 1)
+        all = 256 ** size
+        low, high = (-all // 2, all // 2 - 1) if signed else (0, all - 1)
         if not low <= value <= high:
             self.refuse("%s does not fit %s, which holds %d to %d", word, self.name, low, high)
         return value
@@ -137,7 +152,7 @@ class Reader:
         return value
 
     def count(self, name, allowed):
-        """A line with a number that says how many others follow."""
+        """A line with a number that says which others follow."""
         self.begin(name)
         value = self.field(1)
         if value not in allowed:
@@ -145,24 +160,30 @@ class Reader:
         self.end_line()
         return value
 
-    def fixed_point(self, name, signed=False):
+    def fixed_point(self, name, size=1, signed=False):
+        """A line with an integer part of this many bytes, and a fraction."""
         self.begin(name)
-        self.field(1, signed)
+        self.field(size, signed)
         self.field(4)
         self.end_line()
 
 
-def read_section(reader, version):
+def read_piece(reader, cmp, piece):
+    reader.counted("piece", piece)
+    idc = reader.count("mapping_idc", limits.methods(cmp))
+    order = reader.count(ORDER_NAMES[idc], limits.orders(idc))
+    for name in coef_names(order, idc):
+        reader.fixed_point(name, limits.integer_bytes(idc), signed=True)
+
+
+def read_section(reader, cmp, version):
     n = reader.count("num_pivots_minus2", limits.N)
     reader.begin("pred_pivot_value")
     for _ in range(limits.pivots(n)):
         reader.field(2)
     reader.end_line()
     for piece in range(limits.carried(n, version)):
-        reader.counted("piece", piece)
-        reader.only("mapping_idc", 1)
-        for _ in range(limits.coefs(reader.count("poly_order_minus1", limits.ORDERS))):
-            reader.fixed_point("poly_coef", signed=True)
+        read_piece(reader, cmp, piece)
     reader.only("nlq_offset", 2)
     for name in NLQ_NUMBERS:
         reader.fixed_point(name)
@@ -185,7 +206,7 @@ def read_text(text):
         for cmp in range(3):
             reader.counted("component", cmp)
             begins.append(len(reader.data))
-            read_section(reader, version)
+            read_section(reader, cmp, version)
         reader.end()
     except Stopped:
         if not begins:

@@ -16,7 +16,7 @@ from itertools import product
 import block
 import jobs
 import limits
-from composer import (Plan, assign_pivot_values, derive_pivot_idx, map_by_piece, map_sample, residual,
+from composer import (Plan, assign_pivot_values, derive_pivot_idx, map_by_piece, map_place, map_sample, residual,
                       row_pair_samples)
 from generator import Generator
 from limits import COEF_PLACES, DEPTHS, HDR_DEPTHS, PIVOT_PLACES, coefficients, denominators, nlq_numbers
@@ -24,8 +24,8 @@ from places import changed
 
 Case = namedtuple("Case", "kind plan first count base enhancement version", defaults=[1])
 
-# Pivots are the running sums; a piece is its list of 2 or 3 whole numbers.  Of pieces there
-# are n + 2, or n + 1 where the last one stands twice, as version 1 has it.
+# Pivots are the running sums; a piece is its list of whole numbers, 2 or 3 of a polynomial, 8, 15
+# or 22 of MMR.  Of pieces there are n + 2, or n + 1 where the last one stands twice, as version 1 has it.
 Section = namedtuple("Section", "pivots pieces nlq")
 Nlq = namedtuple("Nlq", "offset maximum slope threshold")
 
@@ -64,9 +64,14 @@ def make_plan(depth, d, hdr_bit_depth, width, height, sections, flag=0):
     return plan
 
 
+# What a piece of so many numbers is: (mapping_idc, order_minus1).
+PIECES = {limits.coefs(order, idc): (idc, order)
+          for idc in (limits.POLYNOMIAL, limits.MMR) for order in limits.orders(idc)}
+
+
 def set_piece(plan, cmp, piece, coef):
-    plan.poly_order_minus1[cmp][piece] = len(coef) - 2
-    plan.fp_poly_coef[cmp][piece] = [*coef, 0][:COEF_PLACES]
+    plan.mapping_idc[cmp][piece], plan.order_minus1[cmp][piece] = PIECES[len(coef)]
+    plan.fp_coef[cmp][piece] = [*coef] + [0] * (COEF_PLACES - len(coef))
 
 
 def set_section(plan, cmp, section):
@@ -256,14 +261,19 @@ def pinning_enhancement(plan, cmp, v, want):
 
 def pinned_picture(kind, plan, planes):
     """A whole-picture case that shows each mapped sample as exactly as it can."""
-    pivot_value = assign_pivot_values(plan.pred_pivot_value, plan.num_pivots_minus2)
-    edges = edges_of_rounding(plan)
+    edges, base = edges_of_rounding(plan), picture(planes)
     enhancement = []
     for cmp in range(3):
-        for at, s in enumerate(planes[cmp]):
-            v = map_sample(plan, pivot_value, cmp, s)
+        for at, v in enumerate(mapped_plane(plan, cmp, base)):
             enhancement.append(pinning_enhancement(plan, cmp, v, edges[at % 2]))
-    return whole(kind, plan, picture(planes), enhancement)
+    return whole(kind, plan, base, enhancement)
+
+
+def mapped_plane(plan, cmp, base):
+    """The mapped samples of a component."""
+    pivot_value = assign_pivot_values(plan.pred_pivot_value, plan.num_pivots_minus2)
+    begin = sum(plane_size(plan, before) for before in range(cmp))
+    return [map_place(plan, pivot_value, base, cmp, begin + at) for at in range(plane_size(plan, cmp))]
 
 
 def pivot_sets(depth):
@@ -384,11 +394,11 @@ def meets_last_piece(plan, cmp, samples):
 
 
 def tells_last_piece(plan, cmp, samples):
-    """Whether pieces n and n + 1 map one of these samples to other numbers."""
+    """Whether pieces n and n + 1 map one of these samples to other numbers; for MMR the others of its place are it."""
     pivot_value = assign_pivot_values(plan.pred_pivot_value, plan.num_pivots_minus2)
     n = plan.num_pivots_minus2[cmp]
-    return any(map_by_piece(plan, pivot_value, cmp, s, n) != map_by_piece(plan, pivot_value, cmp, s, n + 1)
-               for s in samples)
+    return any(map_by_piece(plan, pivot_value, cmp, [s] * 3, n)
+               != map_by_piece(plan, pivot_value, cmp, [s] * 3, n + 1) for s in samples)
 
 
 def last_pivot_case(kind, depth, i, generator, version):
@@ -440,7 +450,7 @@ def samples_that_show(plan, cmp):
     """Samples mapped strictly within 0 and 65,535: the first and last first."""
     pivot_value = assign_pivot_values(plan.pred_pivot_value, plan.num_pivots_minus2)
     shown = [s for s in range(1 << plan.BL_bit_depth)
-             if 0 < map_sample(plan, pivot_value, cmp, s) < 65535]
+             if 0 < map_sample(plan, pivot_value, cmp, [s] * 3) < 65535]
     if not shown:
         return []
     middle = len(shown) // 2
@@ -767,14 +777,14 @@ def random_plan(shapes, generator, version=1):
 
 
 def random_picture(plan, generator):
-    """(base, enhancement) of good samples, many of them telling."""
+    """(base, enhancement) of good samples, many of them telling; of a plan of polynomials."""
     depth = plan.BL_bit_depth
     pivot_value = assign_pivot_values(plan.pred_pivot_value, plan.num_pivots_minus2)
     base, enhancement = [], []
     for cmp in range(3):
         for _ in range(plane_size(plan, cmp)):
             s = random_base_sample(pivot_value[cmp], depth, generator)
-            v = map_sample(plan, pivot_value, cmp, s)
+            v = map_sample(plan, pivot_value, cmp, [s] * 3)
             base.append(s)
             enhancement.append(random_enhancement_sample(plan, cmp, v, generator))
     return base, enhancement

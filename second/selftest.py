@@ -19,6 +19,7 @@ import jobs
 import large
 import limits
 import make_vectors
+import mmr_cases
 import night_cases
 import nights
 import picture
@@ -33,14 +34,15 @@ import wrong_mappers
 import wrong_readers
 import wrong_writers
 from composer import (Plan, assign_pivot_values, compose_row_pairs, derive_pivot_idx,
-                      inverse_quantization, map_sample, reconstruct)
+                      inverse_quantization, map_place, map_sample, reconstruct)
+from generator import Generator
 
 
 # What several tests look at is made once; no test changes it.
 all_nights = functools.lru_cache(maxsize=None)(night_cases.all_nights)
 plan_groups = functools.lru_cache(maxsize=None)(plan_cases.all_groups)
 block_bases_and_cases = functools.lru_cache(maxsize=None)(block_cases.all_cases)
-all_samples = functools.lru_cache(maxsize=None)(sample_cases.all_cases)
+all_samples = functools.lru_cache(maxsize=None)(make_vectors.all_samples)
 
 
 @functools.lru_cache(maxsize=None)
@@ -64,13 +66,17 @@ def block_of(data):
 
 
 def set_section(plan, cmp, pivots, pieces):
-    """Pivots are running sums; a piece is its list of 2 or 3 numbers, and the last of n + 1 pieces stands twice."""
+    """Pivots are running sums; a piece is its list of numbers, and the last of n + 1 pieces stands twice.
+
+    Of a polynomial they are 2 or 3, of MMR 8, 15 or 22.
+    """
     plan.num_pivots_minus2[cmp] = len(pivots) - 2
     for i, pivot in enumerate(pivots):
         plan.pred_pivot_value[cmp][i] = pivot - (pivots[i - 1] if i else 0)
     for piece, coef in enumerate([*pieces, pieces[-1]][:len(pivots)]):
-        plan.poly_order_minus1[cmp][piece] = len(coef) - 2
-        plan.fp_poly_coef[cmp][piece] = [*coef, 0][:3]
+        plan.mapping_idc[cmp][piece] = 1 if len(coef) > 3 else 0
+        plan.order_minus1[cmp][piece] = len(coef) // 7 - 1 if len(coef) > 3 else len(coef) - 2
+        plan.fp_coef[cmp][piece] = [*coef] + [0] * (22 - len(coef))
 
 
 def small_plan(depth=10, d=15, pivots=(0, 1023), pieces=((0, 1 << 15),)):
@@ -87,7 +93,7 @@ def small_plan(depth=10, d=15, pivots=(0, 1023), pieces=((0, 1 << 15),)):
 def mapped(s, **choices):
     plan = small_plan(**choices)
     pivot_value = assign_pivot_values(plan.pred_pivot_value, plan.num_pivots_minus2)
-    values = [map_sample(plan, pivot_value, cmp, s) for cmp in range(3)]
+    values = [map_sample(plan, pivot_value, cmp, [s] * 3) for cmp in range(3)]
     assert values[0] == values[1] == values[2]
     return values[0]
 
@@ -155,6 +161,139 @@ def test_last_piece():
     # n = 15: 17 pieces, the last for 960 and above.
     many = dict(pivots=[60 * i for i in range(17)], pieces=[(0, one)] * 16 + [half])
     assert [mapped(s, **many) for s in (959, 960, 1023)] == [61376, 32768, 32768]
+
+
+def mmr_plan(coef, depth=10, d=15, pivots=((0, 1023),) * 3):
+    """The small plan, with these numbers in Cb and in Cr; those of each component's pivots."""
+    plan = small_plan(depth, d)
+    set_section(plan, 0, pivots[0], [(0, 1 << d)])
+    for cmp in (1, 2):
+        set_section(plan, cmp, pivots[cmp], [coef])
+    return plan
+
+
+def mmr_mapped(coef, s0, s1, s2, depth=10, d=15, **choices):
+    """Of Cb and Cr of a place with these samples; small numbers are meant as they are, `one` is 1.0."""
+    plan = mmr_plan(coef, depth, d, **choices)
+    pivot_value = assign_pivot_values(plan.pred_pivot_value, plan.num_pivots_minus2)
+    values = [map_sample(plan, pivot_value, cmp, (s0, s1, s2)) for cmp in (1, 2)]
+    assert values[0] == values[1]
+    return values[0]
+
+
+def numbers(order, **given):
+    """Of an MMR piece of this order: zeros, but for these, c0 being the constant and c1 to c21 the coefficients."""
+    coef = [0] * (1 + 7 * order)
+    for name, z in given.items():
+        coef[int(name[1:])] = z
+    return coef
+
+
+def test_mmr_examples():
+    """By hand, at depth 10 and d = 15: tt of a sample s is s << 10, of a product of two their product, and of three
+    samples their product >> 10; v is the sum of number x tt, over 2^19."""
+    one = 1 << 15
+    assert mmr_mapped(numbers(1, c0=one // 2), 1, 2, 3) == 32768                        # 2^14 x 2^20 >> 19
+    assert mmr_mapped(numbers(1, c1=one), 512, 2, 3) == 32768                           # 2^15 x 2^19 >> 19
+    # 20,000 << 4, x 2^13, >> 17, at depth 8 and d = 13
+    assert mmr_mapped(numbers(1, c4=1 << 13), 200, 100, 3, 8, 13, pivots=((0, 255),) * 3) == 20000
+    # 33 x 35 x 37 = 42,735; 42,735 >> 10 = 41; 16 x 41 x 2^15 >> 19 = 41
+    assert mmr_mapped(numbers(1, c7=16 * one), 33, 35, 37) == 41
+    assert mmr_mapped(numbers(2, c9=one), 3, 512, 3) == 16384                           # 2^18 x 2^15 >> 19
+    # 10^9 >> 10 = 976,562; its square >> 20 = 909,493; 909,493 - 13 x 2^16 = 57,525, each 16 x 2^15 >> 19
+    assert mmr_mapped(numbers(2, c0=-13 * one, c14=16 * one), 1000, 1000, 1000) == 57525
+    assert mmr_mapped(numbers(3, c17=one), 3, 3, 512) == 8192                           # 2^17 x 2^15 >> 19
+    # 976,562 x 909,493 >> 20 = 847,030; 847,030 - 12 x 2^16 = 60,598
+    assert mmr_mapped(numbers(3, c0=-12 * one, c21=16 * one), 1000, 1000, 1000) == 60598
+    # All terms of an order, with 512, 256 and 64: tt[1] to tt[7] are 2^19, 2^18, 2^16, 2^17, 2^15, 2^14, 2^13, and
+    # 1 x 2^19 + 2 x 2^18 + 3 x 2^16 + 4 x 2^17 + 5 x 2^15 + 6 x 2^14 + 7 x 2^13 = 2,088,960; >> 9 is 4,080.
+    row = [k << 15 for k in range(1, 8)]
+    assert mmr_mapped([0] + [z // 32 for z in row], 512, 256, 64) == 4080
+    # Squares are 2^18, 2^16, 2^12, 2^14, 2^10, 2^8, 2^6: 262,144 + 131,072 + 12,288 + 65,536 + 5,120 + 1,536 + 448 is
+    # 478,144; >> 4 is 29,884. Third powers are 2^17, 2^14, 2^8, 2^11, 2^5, 2^2, 2^-1, which is cut to 0: 131,072 +
+    # 32,768 + 768 + 8,192 + 160 + 24 + 0 is 172,984; >> 4 is 10,811.
+    assert mmr_mapped([0] * 8 + row, 512, 256, 64) == 29884
+    assert mmr_mapped([0] * 15 + row, 512, 256, 64) == 10811
+    assert mmr_mapped(numbers(1, c0=one - 1), 9, 9, 9) == 65534                         # 32,767 x 2^20 >> 19
+    assert mmr_mapped(numbers(1, c0=one), 9, 9, 9) == 65535                             # 65,536, cut
+    assert mmr_mapped(numbers(1, c0=-1), 9, 9, 9) == 0
+    # Both ends: 2^14 x 2^20 less 2^19 is 17,179,344,896; >> 19 is 32,767.
+    ends = numbers(1, c0=one // 2, c1=-65536 * one, c2=65536 * one - 1)
+    assert mmr_mapped(ends, 512, 512, 3) == 32767
+    # At d = 32 the two terms are beyond 2^66: 2^31 x 2^20 less 2^19, >> 36 is 32,767 too.
+    ends = numbers(1, c0=1 << 31, c1=-65536 << 32, c2=(65536 << 32) - 1)
+    assert mmr_mapped(ends, 512, 512, 3, d=32) == 32767
+    for z, cut in (((65536 << 32) - 1, 65535), (-65536 << 32, 0)):
+        assert mmr_mapped([z] * 22, 1023, 1023, 1023, d=32) == cut
+
+
+def test_mmr_in_halves():
+    """Numbers over the whole range: integer parts and fractions summed apart, each sum below 2^63, give the same."""
+    generator = Generator(7)
+    for depth, d in ((8, 13), (10, 15), (10, 24), (8, 32), (10, 32)):
+        for at in range(60):
+            coef = [generator.among(limits.coefficients(d, limits.MMR)) for _ in range(1 + 7 * (1 + at % 3))]
+            tt = composer.mmr_terms(*(generator.below(1 << depth) for _ in range(3)), 3, depth)
+            rest = sum(z * t for z, t in zip(coef[1:], tt[1:]))
+            coef[0] = max(min(at - rest // tt[0], (65536 << d) - 1), -65536 << d)       # sums near 0 where it can
+            rows = [None] + [coef[1 + 7 * i:8 + 7 * i] for i in range(3)]
+            whole = composer.mmr_sum(tt, 1 + at % 3, coef[0], rows)
+            integers, fractions = (sum(part * t for part, t in zip(parts, tt)) for parts in (
+                [z >> d for z in coef], [z % (1 << d) for z in coef]))
+            assert abs(integers) < 1 << 63 and 0 <= fractions < 1 << 63
+            assert whole >> d == integers + (fractions >> d)
+
+
+def test_mmr_clamps():
+    """Each of the three samples is clamped with its own component's pivots: 1.0 of s0, s1 or s2 is 64 of each code."""
+    one = 1 << 15
+    pivots = ((100, 200), (300, 400), (500, 600))
+    for i, (low, high) in enumerate(pivots, 1):
+        def of(s):
+            samples = [150, 350, 550]
+            samples[i - 1] = s
+            return mmr_mapped(numbers(1, **{"c%d" % i: one}), *samples, pivots=pivots)
+        assert [of(s) for s in (0, low - 1, low, low + 1, high, high + 1, 1023)] == [
+            64 * s for s in (low, low, low, low + 1, high, high, high)]
+    # The piece goes by the sample of the component before it is clamped, and by no other one.
+    plan = mmr_plan(numbers(1, c0=one // 4), pivots=((0, 1023), (100, 100, 200), (0, 1023)))
+    set_section(plan, 1, (100, 100, 200), [numbers(1, c0=one // 4), (one // 2, 0), numbers(3, c2=one)])
+    pivot_value = assign_pivot_values(plan.pred_pivot_value, plan.num_pivots_minus2)
+    assert [map_sample(plan, pivot_value, 1, (s0, s, 700)) for s in (50, 100, 199, 200, 900) for s0 in (0, 900)] == [
+        16384, 16384, 32768, 32768, 32768, 32768, 12800, 12800, 12800, 12800]
+
+
+def test_down_sampling():
+    """By hand: of rows 10 20 30 40 and 11 21 31 41 column 0 is (10 + 20 + 20 + 2 >> 2) + (11 + 22 + 21 + 2 >> 2) + 1 >>
+    1 = 13 + 14 + 1 >> 1 = 14, column 1 is (20 + 60 + 40 + 2 >> 2) + (21 + 62 + 41 + 2 >> 2) + 1 >> 1 = 30 + 31 + 1 >>
+    1 = 31."""
+    def below(rows):
+        width = len(rows[0])
+        return [composer.down_sampled_luma(lambda x, y: rows[y][x], width, len(rows), i, j)
+                for j in range(len(rows) // 2) for i in range(width // 2)]
+    assert below([[10, 20, 30, 40], [11, 21, 31, 41]]) == [14, 31]
+    # Both roundings go up: one alone, all samples and 4, >> 3, would give 0 both times.
+    assert below([[0, 2], [0, 0]]) == [1] and below([[1, 0], [0, 0]]) == [1]
+    assert below([[1023] * 4] * 4) == [1023] * 4 and below([[0] * 2] * 6) == [0] * 3
+    # Left of the picture stands column 0; right of it nothing is read. Row pairs are apart.
+    assert below([[8, 0, 0, 0], [8, 0, 0, 0], [0, 8, 0, 0], [0, 8, 0, 0]]) == [6, 0, 2, 2]
+    assert below([[0, 0, 0, 8], [0, 0, 0, 8]]) == [0, 2]
+
+
+def test_mmr_picture():
+    """By hand: 1.0 of s0 in Cb and of s1 in Cr, 12 bit, so that Cb is 4 times the down-sampled luma, Cr 4 times Cb."""
+    one = 1 << 15
+    plan = mmr_plan(numbers(1, c1=one))
+    set_section(plan, 2, (0, 1023), [numbers(1, c2=one)])
+    plan.half_width, plan.half_height = 2, 2
+    luma = [10, 20, 30, 40, 11, 21, 31, 41, 0, 0, 8, 0, 0, 0, 8, 0]
+    base = luma + [500, 600, 700, 800] + [1, 2, 3, 4]
+    number, composed = jobs.job(plan, 0, 2, base, [], [0] * 24)
+    assert number == 0 and composed == [4 * s for s in luma + [14, 31, 0, 4] + [500, 600, 700, 800]]
+    # A job of row pair 1 does not read the luma of row pair 0.
+    number, half = jobs.job(plan, 1, 1, [65535] * 8 + base[8:], [], [7] * 24)
+    assert number == 0 and half == [7] * 8 + composed[8:16] + [7] * 2 + composed[18:20] + [7] * 2 + composed[22:]
+    assert jobs.job(plan, 0, 2, [1024] + base[1:], [], [7] * 24)[0] == 11
 
 
 def residual(e, offset, R, S, T, EL_bit_depth, d):
@@ -230,6 +369,7 @@ def test_reconstruction():
 
 
 def largest_plan(last=(1, 2, 3)):
+    """All pieces, of polynomials."""
     plan = small_plan()
     for cmp in range(3):
         set_section(plan, cmp, [60 * i for i in range(limits.PIVOT_PLACES)],
@@ -237,9 +377,17 @@ def largest_plan(last=(1, 2, 3)):
     return plan
 
 
+def largest_mmr_plan():
+    """The same with MMR of the highest order in chroma."""
+    plan = largest_plan()
+    for cmp in (1, 2):
+        set_section(plan, cmp, [60 * i for i in range(limits.PIVOT_PLACES)], [range(-11, 11)] * limits.PIECE_PLACES)
+    return plan
+
+
 def test_block_sizes():
     """The house rules' lengths, against those that the limits come to; a plan reads back from both versions."""
-    shortest, longest = small_plan(), largest_plan()
+    shortest, middle, longest = small_plan(), largest_plan(), largest_mmr_plan()
     for version, section, size, trailer in ((1, 34, 138, (126, 102, 68, 34, 1, 0)),
                                             (2, 46, 174, (162, 138, 92, 46, 2, 0))):
         assert len(block.section_bytes(shortest, 0, version)) == limits.SHORTEST_SECTION[version] == section
@@ -247,27 +395,72 @@ def test_block_sizes():
         assert len(data) == limits.SHORTEST_BLOCK[version] == size
         assert struct.unpack(">6H", data[-12:]) == trailer
         assert block.read(data) == (0, shortest)
-    for version, section, size in ((1, 324, 1008), (2, 341, 1059)):
-        assert len(block.section_bytes(longest, 2, version)) == limits.LONGEST_SECTION[version] == section
+    for version, size in ((1, 1008), (2, 1059)):                # of polynomials alone
+        assert len(block.write(middle, version)) == size
+        assert block.read(block.write(middle, version)) == (0, middle)
+    # A piece of MMR is 2 + 22 x 8 = 178 bytes: 1 + 34 + 16 x 178 + 17, and 178 more; 24 + luma + 2 x chroma + 12.
+    for version, sections, size in ((1, [324, 2900, 2900], 6160), (2, [341, 3078, 3078], 6533)):
+        assert limits.LONGEST_SECTIONS[version] == sections
+        assert [len(block.section_bytes(longest, cmp, version)) for cmp in range(3)] == sections
         data = block.write(longest, version)
         assert len(data) == limits.LONGEST_BLOCK[version] == size
         assert block.read(data) == (0, longest)
         assert block.read(b"\xff" * 70000 + data) == (0, longest)
-    assert len(places.PLACES) == 11 + 3 * 107
+    assert len(places.PLACES) == 11 + 3 * 430
     unlike = largest_plan([4, -5])
     assert block.read(block.write(unlike, 2)) == (0, unlike)
 
 
+def test_mmr_by_hand():
+    """An MMR piece's bytes at d = 15, read to places: 441 + 18 is piece 0 of Cb, its numbers are from 461 on."""
+    header, *sections = split(block.write(small_plan()))
+    begin, nlq = bytes.fromhex("00" "000003ff"), bytes(17)
+    words = ["0000000000000005", "ffffffff00007fff", "ffff000000000000", "0000ffff00007fff", "0000000200000003",
+             "0000000000000000", "0000000000000001", "8000000000000000"]
+    last = words.index("8000000000000000")
+
+    def made(numbers, order=0, idc=1):
+        piece = bytes([idc, order]) + b"".join(bytes.fromhex(word) for word in numbers)
+        return block.assemble(header, [sections[0], begin + piece + nlq, sections[2]])
+    assert number_of(made(words)) == 5                          # the last one is far below -65,536
+    words[last] = "0000000000007fff"
+    number, plan = block.read(made(words))
+    numbers = [5, -1, -65536 << 15, (65536 << 15) - 1, 65539, 0, 1, 32767]
+    assert number == 0 and places.values(plan)[459:485] == [1, 0] + numbers + [0] * 14 + [1, 0]
+    assert places.values(plan)[485:493] == numbers              # piece 1 is piece 0 again
+    assert block.write(plan) == made(words) and len(made(words)) == 138 + 54
+    for word, number in (("ffff000000000000", 0), ("fffeffff00000000", 5), ("0000ffff00000000", 0),
+                         ("0001000000000000", 5), ("0000000000007fff", 0), ("0000000000008000", 5),
+                         ("7fffffff00000000", 5), ("0100000000000000", 5), ("00000000ffffffff", 5)):
+        for at in range(8):
+            assert number_of(made(words[:at] + [word] + words[at + 1:])) == number
+    # 8, 15 and 22 numbers; another order finds too few or too many. A polynomial is no MMR.
+    for order, count in ((0, 8), (1, 15), (2, 22)):
+        for given in (7, 8, 9, 14, 15, 16, 21, 22, 23):
+            assert number_of(made(["0000000000000000"] * given, order)) == (0 if given == count else 3)
+    assert [number_of(made(words, order)) for order in (3, 4, 128, 255)] == [5] * 4
+    assert [number_of(made(words, 0, idc)) for idc in (2, 3, 129, 255)] == [5] * 4
+    # Luma has none, and a bad integer part comes before its fraction that is missing.
+    cb = made(words)[58:58 + 88]
+    assert number_of(block.assemble(header, [cb, cb, cb])) == 5
+    for size, cut in ((11, cb[:11]), (10, cb[:10])):
+        assert number_of(block.assemble(header, [sections[0], cut, sections[2]])) == 3
+        bad = edited(cut, 7, 1)
+        assert number_of(block.assemble(header, [sections[0], bad, sections[2]])) == (5 if size == 11 else 3)
+    assert number_of(block.assemble(header, [sections[0], cb[:6], sections[2]])) == 3
+    assert number_of(block.assemble(header, [sections[0], begin + b"\2", sections[2]])) == 5
+
+
 def test_versions_by_hand():
-    """The shortest block's section in both versions, read to places: 29 is piece 0, 34 piece 1 of component 0."""
+    """The shortest block's section in both versions, read to places: 29 is piece 0, 53 piece 1 of component 0."""
     y = bytes.fromhex("00" "000003ff" "0000" "0000000005" "0100000000")
     nlq = bytes.fromhex("0200" "0000000000" "0000000000" "0000000000")
     header = block.write(small_plan())[:24]
     number, plan = block.read(block.assemble(header, [y + nlq] * 3, 1))
-    assert number == 0 and places.values(plan)[29:41] == [0, 0, 5, 32768, 0, 0, 0, 5, 32768, 0, 0, 0]
+    assert number == 0 and places.values(plan)[29:79] == 2 * ([0, 0, 5, 32768] + [0] * 20) + [0, 0]
     last = bytes.fromhex("0001" "ff00007fff" "0000000006" "0000000007")
     number, plan = block.read(block.assemble(header, [y + last + nlq] * 3, 2))
-    assert number == 0 and places.values(plan)[29:41] == [0, 0, 5, 32768, 0, 0, 1, -1, 6, 7, 0, 0]
+    assert number == 0 and places.values(plan)[29:60] == [0, 0, 5, 32768] + [0] * 20 + [0, 1, -1, 6, 7, 0, 0]
     # The other version, one piece too many: nlq_offset's 2 is no mapping_idc, and no integer part is 255.
     for version, section in ((2, y + nlq), (1, y + last + nlq), (2, y + last + last + nlq)):
         assert number_of(block.assemble(header, [section] * 3, version)) == 5
@@ -278,11 +471,13 @@ def test_versions_by_hand():
             (1, (34, 34, 34), 0), (2, (46, 46, 46), 0), (2, (34, 34, 34), 3), (1, (46, 46, 46), 3),
             (2, (46, 46, 34), 3), (1, (34, 46, 34), 3), (2, (58, 46, 46), 3), (2, (46, 45, 46), 3)):
         assert number_of(block.assemble(header, [bytes(size) for size in sizes], version)) == number
-    # mapping_idc of piece 1 is at 17 of a section
-    for cmp, number in ((0, 5), (1, 6), (2, 6)):
+    # mapping_idc of piece 1 is at 17 of a section; MMR has more numbers than there are bytes
+    for cmp, number in ((0, 5), (1, 3), (2, 3)):
         sections = [bytes(46)] * 3
         sections[cmp] = edited(bytes(46), 17, 1)
         assert number_of(block.assemble(header, sections, 2)) == number
+        sections[cmp] = edited(bytes(46), 17, 2)
+        assert number_of(block.assemble(header, sections, 2)) == 5
 
 
 def test_largest_size():
@@ -318,9 +513,11 @@ def test_block_refusals():
     assert number_of(edited(data, 24, n)) == 5
     assert number_of(edited(data, 24, 1)) == 3                 # n = 1: section too short
     assert number_of(edited(data, 29, 1)) == 5                 # mapping_idc, section 0
-    assert number_of(edited(data, 24 + 34 + 5, 1)) == 6        # section 1
-    assert number_of(edited(data, 24 + 68 + 5, 1)) == 6        # section 2
-    assert number_of(edited(data, 24 + 68 + 5, 2)) == 5
+    # Sections 1 and 2 as MMR: the first fraction is 00 01 00 00, which is 65,536; without that 1 the bytes end early.
+    for section in (24 + 34, 24 + 68):
+        assert number_of(edited(data, section + 5, 1)) == 5
+        assert number_of(edited(edited(data, section + 5, 1), section + 12, 0)) == 3
+        assert number_of(edited(data, section + 5, 2)) == number_of(edited(data, section + 5, 255)) == 5
     assert number_of(edited(data, 31, high)) == 0
     assert number_of(edited(data, 31, high + 1)) == 5
     assert number_of(edited(data, 31, low % 256)) == 0
@@ -375,25 +572,54 @@ def test_rule_7():
 
     assert not broken(lambda plan: None)
     assert broken(lambda plan: plan.pred_pivot_value[1].__setitem__(2, 1))
-    assert broken(lambda plan: plan.fp_poly_coef[2][0].__setitem__(2, 1))
-    assert broken(lambda plan: plan.poly_order_minus1[0].__setitem__(2, 1))
-    assert not broken(lambda plan: plan.poly_order_minus1[0].__setitem__(1, 1))        # piece n + 1, its third is 0
-    assert not broken(lambda plan: plan.fp_poly_coef[0][1].__setitem__(0, 9))
-    assert broken(lambda plan: plan.fp_poly_coef[0][1].__setitem__(2, 1))
-    assert broken(lambda plan: plan.fp_poly_coef[0][2].__setitem__(0, 1))
-    assert broken(lambda plan: plan.mapping_idc[0].__setitem__(1, limits.MMR))
-    assert jobs.breaks_rule_7(places.changed(good, [(("poly_order_minus1", 2, 16), 0)]))      # n = 15: place 16 is used
-    assert not jobs.breaks_rule_7(places.changed(good, [(("fp_poly_coef", 2, 16, 2), 0)]))
+    assert broken(lambda plan: plan.fp_coef[2][0].__setitem__(2, 1))
+    assert broken(lambda plan: plan.order_minus1[0].__setitem__(2, 1))
+    assert not broken(lambda plan: plan.order_minus1[0].__setitem__(1, 1))        # piece n + 1, its third is 0
+    assert not broken(lambda plan: plan.fp_coef[0][1].__setitem__(0, 9))
+    assert broken(lambda plan: plan.fp_coef[0][1].__setitem__(2, 1))
+    assert broken(lambda plan: plan.fp_coef[0][2].__setitem__(0, 1))
+    assert broken(lambda plan: plan.mapping_idc[0].__setitem__(1, 1))
+    assert jobs.breaks_rule_7(places.changed(good, [(("order_minus1", 2, 16), 0)]))      # n = 15: place 16 is used
+    assert not jobs.breaks_rule_7(places.changed(good, [(("fp_coef", 2, 16, 2), 0)]))
     coefficients, numbers = limits.coefficients(15), limits.nlq_numbers(15)
-    assert broken(lambda plan: plan.fp_poly_coef[0][0].__setitem__(0, coefficients[-1] + 1))
-    assert not broken(lambda plan: plan.fp_poly_coef[0][0].__setitem__(0, coefficients[0]))
-    assert broken(lambda plan: plan.mapping_idc[1].__setitem__(0, limits.MMR))
+    assert broken(lambda plan: plan.fp_coef[0][0].__setitem__(0, coefficients[-1] + 1))
+    assert not broken(lambda plan: plan.fp_coef[0][0].__setitem__(0, coefficients[0]))
+    assert broken(lambda plan: plan.mapping_idc[0].__setitem__(0, 1))
+    assert not broken(lambda plan: plan.mapping_idc[1].__setitem__(0, 1))       # its two numbers are two of MMR
+    assert broken(lambda plan: plan.mapping_idc[1].__setitem__(0, 2))
+    assert broken(lambda plan: plan.mapping_idc[1].__setitem__(2, 1))           # a piece that there is none of
     assert broken(lambda plan: plan.nlq_offset.__setitem__(2, 1024))
     assert broken(lambda plan: plan.fp_hdr_in_max.__setitem__(2, numbers[-1] + 1))
 
 
+def test_rule_7_of_mmr():
+    """By hand, at d = 15: 8, 15 or 22 numbers from -65,536 x 2^15 up to 65,536 x 2^15; a polynomial's are -64 to 64."""
+    low, high = -65536 << 15, (65536 << 15) - 1
+    for order, used in ((0, 8), (1, 15), (2, 22)):
+        plan = mmr_plan([low, high] * 4 + [high] * (used - 8))
+        assert not jobs.breaks_rule_7(plan)
+        for cmp in (1, 2):
+            for piece in (0, 1):
+                for i in range(22):
+                    for z, broken in ((high + 1, True), (low - 1, True), (1, i >= used), (-1, i >= used)):
+                        assert jobs.breaks_rule_7(places.changed(plan, [(("fp_coef", cmp, piece, i), z)])) == broken
+                for other in (0, 1, 2, 3, 255):
+                    edits = [(("order_minus1", cmp, piece), other)]
+                    assert jobs.breaks_rule_7(places.changed(plan, edits)) == (other < order or other > 2)
+                assert jobs.breaks_rule_7(places.changed(plan, [(("mapping_idc", cmp, piece), 0)]))
+                assert jobs.breaks_rule_7(places.changed(plan, [(("mapping_idc", cmp, piece), 2)]))
+        assert jobs.breaks_rule_7(places.changed(plan, [(("mapping_idc", 0, 0), 1)]))
+        assert jobs.breaks_rule_7(places.changed(plan, [(("fp_coef", 1, 2, 21), 1)]))
+    # A polynomial between: its numbers keep their range, and its third one is used from order 1 on.
+    plan = mmr_plan([0] * 22)
+    set_section(plan, 2, (0, 1023), [(-64 << 15, (64 << 15) - 1)])
+    assert not jobs.breaks_rule_7(plan)
+    for i, z in ((0, (-64 << 15) - 1), (1, 64 << 15), (2, 1), (3, 1), (21, -1)):
+        assert jobs.breaks_rule_7(places.changed(plan, [(("fp_coef", 2, 0, i), z)]))
+
+
 def test_plan_cases():
-    """Each place was tried where it is used and where it is not, at its ends and beyond."""
+    """Each place was tried where it is used and where it is not, at its ends and beyond; a number by each method."""
     shown = set()
     for group in plan_groups():
         assert block.read(block.write(group.plan, group.version)) == (0, group.plan)
@@ -402,13 +628,24 @@ def test_plan_cases():
             broken = jobs.breaks_rule_7(plan)
             for place, _ in case.edits[-1:] if broken else case.edits:
                 if len(place) > 1:
-                    shown.add((place, plan_cases.is_used(plan, place), broken))
+                    shown.add((place, method_of(plan, place), plan_cases.is_used(plan, place), broken))
+    polynomials, mmr, smallest = largest_plan(), largest_mmr_plan(), small_plan()
     for place in places.PLACES[len(places.HEADER):]:
-        can_be_used = plan_cases.is_used(largest_plan(), place)
-        can_be_free = not plan_cases.is_used(small_plan(), place)
-        assert ((place, True, True) in shown) == can_be_used
-        assert ((place, False, True) in shown) == can_be_free
-        assert (place, True, False) in shown or not can_be_used or place[0] == "mapping_idc"
+        for plan in (polynomials, mmr) if place[0] == "fp_coef" and place[1] > 0 else (polynomials,):
+            idc = method_of(plan, place)
+            used = plan_cases.is_used(plan, place)
+            assert ((place, idc, True, True) in shown) == used, place
+            assert (place, idc, True, False) in shown or not used or place[0] == "mapping_idc"
+        can_be_free = not plan_cases.is_used(smallest, place)
+        assert any((place, idc, False, True) in shown for idc in (None, 0, 1)) == can_be_free
+    for cmp in (1, 2):                                          # beyond the order of an MMR piece
+        for i in range(8, 22):
+            assert any((("fp_coef", cmp, piece, i), 1, False, True) in shown for piece in range(17))
+
+
+def method_of(plan, place):
+    """Of the piece whose number stands there; None elsewhere."""
+    return plan.mapping_idc[place[1]][place[2]] if place[0] == "fp_coef" else None
 
 
 def test_writer():
@@ -443,18 +680,41 @@ def test_writer_of_version_2():
     assert after[162:174] == bytes.fromhex("00a2008a005c002e0002" "0000")
     assert writer.write_into(plan, 2, b"\xaa" * 173) == (12, 0, b"\xaa" * 173)
     for cmp in range(3):
-        for edits, size in (([(("fp_poly_coef", cmp, 1, 0), 1)], 174), ([(("fp_poly_coef", cmp, 0, 1), -1)], 174),
-                            ([(("poly_order_minus1", cmp, 1), 1)], 179),
-                            ([(("poly_order_minus1", cmp, 0), 1), (("fp_poly_coef", cmp, 0, 2), 8)], 179)):
+        for edits, size in (([(("fp_coef", cmp, 1, 0), 1)], 174), ([(("fp_coef", cmp, 0, 1), -1)], 174),
+                            ([(("order_minus1", cmp, 1), 1)], 179),
+                            ([(("order_minus1", cmp, 0), 1), (("fp_coef", cmp, 0, 2), 8)], 179)):
             other = places.changed(plan, edits)
             assert (writer.length(other, 1), writer.length(other, 2)) == (0, size)
             for room in (0, 137, 138, 200):                     # 7 before 12
                 assert writer.write_into(other, 1, b"\xaa" * room) == (7, 0, b"\xaa" * room)
             number, length, after = writer.write_into(other, 2, bytes(size))
             assert (number, length) == (0, size) and block.read(after) == (0, other)
-    # MMR in both pieces makes them no less a fault
-    both = places.changed(plan, [(("mapping_idc", 1, piece), limits.MMR) for piece in (0, 1)])
+    # Alike in both pieces, a method that there is none of is no less a fault.
+    both = places.changed(plan, [(("mapping_idc", 1, piece), 2) for piece in (0, 1)])
     assert writer.length(both, 1) == writer.length(both, 2) == 0
+
+
+def test_writer_of_mmr():
+    """By hand, at d = 15: 4 bytes of integer part, 4 of fraction, rounding down; 54 bytes more than a polynomial."""
+    plan = small_plan()
+    set_section(plan, 2, (0, 1023), [[-1, -65536 << 15, (65536 << 15) - 1, 3 << 14, -3 << 14, 0, 1, -1 << 15]])
+    piece = bytes.fromhex("0100" "ffffffff00007fff" "ffff000000000000" "0000ffff00007fff" "0000000100004000"
+                          "fffffffe00004000" "0000000000000000" "0000000000000001" "ffffffff00000000")
+    number, length, after = writer.write_into(plan, 1, b"\xaa" * 200)
+    assert (number, length, after[192:]) == (0, 192, b"\xaa" * 8)
+    assert after[92:180] == bytes.fromhex("00" "000003ff") + piece + bytes(17)
+    assert after[180:192] == bytes.fromhex("00b4009c007a00580001" "0000")
+    assert writer.write_into(plan, 1, b"\xaa" * 191) == (12, 0, b"\xaa" * 191)
+    number, length, after = writer.write_into(plan, 2, bytes(400))
+    assert (number, length) == (0, 174 + 108) and after[24 + 92:24 + 92 + 5 + 132] == after[116:121] + 2 * piece
+    assert [writer.length(plan, version) for version in (0, 1, 2, 3)] == [0, 192, 282, 0]
+    for edits in ([(("fp_coef", 2, 1, 7), 0)], [(("order_minus1", 2, 1), 1)], [(("order_minus1", 2, 0), 2)]):
+        other = places.changed(plan, edits)
+        assert writer.length(other, 1) == 0 and writer.length(other, 2) >= 282
+    # The method alone makes two pieces differ.
+    plan = places.changed(small_plan(), [(("mapping_idc", 1, 1), 1)])
+    assert [writer.length(plan, version) for version in (1, 2)] == [0, 174 + 54]
+    assert [writer.length(largest_mmr_plan(), version) for version in (1, 2)] == [6160, 6533]
 
 
 def test_read_cases():
@@ -472,12 +732,13 @@ def test_sample_cases():
     """The same by what is composed: for some of the wrong readers, and for every wrong mapping."""
     readers = {name: {"read": read} for name, read in wrong_readers.WRONG.items()}
     mappers = {name: {"mapping": mapping} for name, mapping in wrong_mappers.WRONG.items()}
-    assert_shown(sample_cases.SHOWS, by_kind(all_samples()), {**readers, **mappers},
+    shows = {**sample_cases.SHOWS, **mmr_cases.SHOWS}
+    assert_shown(shows, by_kind(all_samples()), {**readers, **mappers},
                  lambda case, wrong: composed_line(case) != composed_line(case, **wrong))
-    assert shown_names(sample_cases.SHOWS) - set(readers) == set(mappers)
+    assert shown_names(shows) - set(readers) == set(mappers)
 
 
-def composed_line(case, read=block.read, mapping=map_sample):
+def composed_line(case, read=block.read, mapping=map_place):
     """What is said of a case of sample_vectors by this reader and by this mapping."""
     number, plan = read(block.write(case.plan, case.version))
     if number != 0:
@@ -726,7 +987,7 @@ def composed_sample(plan, at, base, enhancement):
     """Demand 2 for one sample."""
     cmp, _ = place_of(plan, at)
     pivot_value = assign_pivot_values(plan.pred_pivot_value, plan.num_pivots_minus2)
-    v = map_sample(plan, pivot_value, cmp, base[at])
+    v = map_place(plan, pivot_value, base, cmp, at)
     if plan.disable_residual_flag == 1 or enhancement == []:
         return reconstruct(v, 0, 1, plan.hdr_bit_depth)
     return reconstruct(v, composer.residual(plan, cmp, enhancement[at]), 0,
@@ -740,7 +1001,8 @@ def lent_runs(night, job):
 
 def test_demand_3():
     """Demand 3's sentence over the random nights; marks play no part in it."""
-    chosen = [night for night in all_nights() if night.kind in ("random", "random, version 2")]
+    chosen = [night for night in all_nights() if night.kind in (
+        "random", "random, version 2", "random, MMR", "random, MMR, version 2")]
     accepted = refused = complete = 0
     for night in chosen:
         opening, jobs_done, output, _ = played(night)
@@ -841,6 +1103,22 @@ def test_night_limits():
         assert not jobs.breaks_rule_7(night.plan)
 
 
+def test_stream_limits():
+    """What README.md says of the sizes in the other streams, and that the longest of all is there."""
+    bases, cases = block_bases_and_cases()
+    blocks = [block.write(some.plan, some.version) for some in [*all_samples(), *all_nights(), *plan_groups()]]
+    for data in [*bases, *blocks]:
+        assert len(data) <= write_cases.LARGEST_BLOCK
+    for longest in limits.LONGEST_BLOCK.values():
+        assert longest in map(len, bases) and longest in map(len, blocks)
+    assert len(bases) < 256 and max(len(case.edits) for case in cases) < 256
+    assert max(len(answers.block_line(data)) for data in bases) < 20480
+    sizes = sorted({len(run) for case in all_samples() for run in (case.base, case.enhancement)})
+    assert sizes[-1] == 3 * 2 * limits.HALF_WIDTHS[-1] and sizes[-2] <= 128
+    text = plan_text.text_of(author_cases.longest_plan(), 2)
+    assert len(text) == 24733 < limits.TEXT_BYTES == 32768 and len(plan_text.read_text(text).data) == 6533
+
+
 def test_what_is_said():
     """By hand: the shortest block of depth 10 has its header at byte 0, its sections at
     24, 58 and 92, its trailer at 126.
@@ -865,7 +1143,8 @@ def test_what_is_said():
         ((24, n + 1), "5 at byte 24", "num_pivots_minus2[0] is %d, allowed 0 to %d" % (n + 1, n)),
         ((61, 4), "5 at byte 61", "pred_pivot_value[1][1] is 1279, allowed less than 1024"),
         ((29, 1), "5 at byte 29", "mapping_idc[0][0] is 1, allowed 0"),
-        ((63, 1), "6 at byte 63", "mapping_idc[1][0] is 1, allowed 0"),
+        ((63, 2), "5 at byte 63", "mapping_idc[1][0] is 2, allowed 0 or 1"),
+        ((97, 255), "5 at byte 97", "mapping_idc[2][0] is 255, allowed 0 or 1"),
         ((64, order + 1), "5 at byte 64",
          "poly_order_minus1[1][0] is %d, allowed 0 to %d" % (order + 1, order)),
         ((99, high + 1), "5 at byte 99",
@@ -894,6 +1173,82 @@ def test_what_is_said():
     short = "; hand over the whole block, up to its last byte"
     assert inspect_block.inspect("x", good[-11:])[0] == "x: refused 1 (short): 11 bytes, allowed 12 or more" + short
     assert inspect_block.inspect("x", good[1:])[0] == "x: refused 1 (short): A is 126, allowed at most 125" + short
+
+
+def test_what_is_said_of_mmr():
+    """By hand: section 1 at 58 has mapping_idc at 63, the order at 64, the constant at 65 and 69, coefficient [1][0] at
+    73 and 77, [1][6] at 121 and 125, nlq_offset at 129; section 2 of three orders begins at 146, has [2][3] at 241."""
+    plan = small_plan()
+    set_section(plan, 1, (0, 1023), [numbers(1)])
+    set_section(plan, 2, (0, 1023), [numbers(3)])
+    good = block.write(plan)
+    assert len(good) == 24 + 34 + 88 + 200 + 12
+
+    def said(place, *new):
+        line, last = inspect_block.inspect("x", edited(good, place, *new))
+        assert last == "not shown"
+        return line
+    wide = "allowed -65536 to 65535"
+    for edit, place, found in (
+            ((64, 3), 64, "mmr_order_minus1[1][0] is 3, allowed 0 to 2"),
+            ((65, 0, 1), 65, "mmr_constant_int[1][0] is 65536, " + wide),
+            ((65, 255, 254, 255, 255), 65, "mmr_constant_int[1][0] is -65537, " + wide),
+            ((71, 128), 69, "mmr_constant[1][0] is 32768, allowed less than 32768"),
+            ((73, 128), 73, "mmr_coef_int[1][0][1][0] is -2147483648, " + wide),
+            ((125, 255, 255, 255, 255), 125, "mmr_coef[1][0][1][6] is 4294967295, allowed less than 32768"),
+            ((129, 4), 129, "nlq_offset[1] is 1024, allowed less than 1024"),
+            ((152, 255), 152, "mmr_order_minus1[2][0] is 255, allowed 0 to 2"),
+            ((241, 0, 2), 241, "mmr_coef_int[2][0][2][3] is 131072, " + wide),
+            ((247, 128), 245, "mmr_coef[2][0][2][3] is 32768, allowed less than 32768"),
+            ((321, 1), 321, "mmr_coef_int[2][0][3][6] is 16777216, " + wide)):
+        assert said(*edit) == words.refused("x", 5, found, place), said(*edit)
+    # Order 2 wants seven numbers more: the first that does not end in time begins at 129 + 16, the section at 146.
+    assert said(64, 1) == words.refused("x", 3, "section 1 is bytes 58 up to 146", 145)
+
+
+def test_what_is_shown_of_mmr():
+    """By hand: -1 / 2^15 is -1 and 32,767 parts, and is rounded down to -0.000031."""
+    plan = small_plan()
+    set_section(plan, 1, (0, 1023), [numbers(1, c0=-1 << 14, c1=-1, c7=(65536 << 15) - 1)])
+    set_section(plan, 2, (0, 1023), [numbers(2, c8=5, c14=-65536 << 15)])
+    lines = inspect_block.inspect("x", block.write(plan))
+    at = lines.index("section 1, Cb, at byte 58")
+    assert lines[at + 4:at + 17] == [
+        "  piece 0", "    mapping_idc 1", "    mmr_order_minus1 0",
+        "    mmr_constant_int -1 + mmr_constant 16384/2^15, about -0.500000",
+        "    mmr_coef_int[1][0] -1 + mmr_coef[1][0] 32767/2^15, about -0.000031",
+        *("    mmr_coef_int[1][%d] 0 + mmr_coef[1][%d] 0/2^15, about 0.000000" % (j, j) for j in range(1, 6)),
+        "    mmr_coef_int[1][6] 65535 + mmr_coef[1][6] 32767/2^15, about 65535.999969",
+        "  nlq_offset 0", "  hdr_in_max_int 0 + hdr_in_max 0/2^15, about 0.000000"]
+    at = lines.index("section 2, Cr, at byte 146")
+    assert lines[at + 4:at + 8] == ["  piece 0", "    mapping_idc 1", "    mmr_order_minus1 1",
+                                    "    mmr_constant_int 0 + mmr_constant 0/2^15, about 0.000000"]
+    assert lines[at + 14:at + 16] == ["    mmr_coef_int[1][6] 0 + mmr_coef[1][6] 0/2^15, about 0.000000",
+                                      "    mmr_coef_int[2][0] 0 + mmr_coef[2][0] 5/2^15, about 0.000152"]
+    assert lines[at + 21] == "    mmr_coef_int[2][6] -65536 + mmr_coef[2][6] 0/2^15, about -65536.000000"
+    assert lines[at + 22] == "  nlq_offset 0"
+
+
+def test_what_is_drawn_of_mmr():
+    """By hand: Cb is 1.0 of s1 and 1/4 of s0, which is at 512, clamped to 256, so that v is 64 s + 4,096; Cr is 1.0 of
+    the product of s0 and s2: 16 s."""
+    one = 1 << 15
+    plan = mmr_plan(numbers(1, c2=one, c1=one // 4), pivots=((0, 256), (0, 1023), (0, 1023)))
+    set_section(plan, 2, (0, 1023), [numbers(2, c5=one)])
+    lines = inspect_block.inspect("x", block.write(plan), plotted=True)
+    assert lines[1].endswith('>Y: pieces 1, codes 0 to 1023, mapped samples 0 to 16384</text><text y="-9">pivots 0 256')
+    assert lines[3].endswith('>Cb: pieces 1, codes 0 to 1023, mapped samples 4096 to 65535, luma and Cr at 512</text>'
+                             '<text y="-9">pivots 0 1023')
+    assert 'd="M 0 61439 256 61375 512 61311 ' in lines[4]
+    assert lines[5].endswith('>Cr: pieces 1, codes 0 to 1023, mapped samples 0 to 16368, luma and Cb at 512</text>'
+                             '<text y="-9">pivots 0 1023')
+    assert 'd="M 0 65535 256 65519 512 65503 ' in lines[6]
+    # Of depth 8 the middle code is 128. A component of polynomials has no such words, whatever the other one has.
+    plan = mmr_plan(numbers(1, c2=1 << 13), 8, 13, ((0, 255),) * 3)
+    set_section(plan, 2, (0, 255), [(0, 1 << 13)])
+    lines = inspect_block.inspect("x", block.write(plan, 2), plotted=True)
+    assert ">Cb: pieces 2, codes 0 to 255, mapped samples 0 to 65280, luma and Cr at 128</text>" in lines[3]
+    assert ">Cr: pieces 2, codes 0 to 255, mapped samples 0 to 65280</text>" in lines[5]
 
 
 def test_what_is_shown():
@@ -1026,9 +1381,9 @@ def is_whole_circle(data):
 
 
 def test_text_identities():
-    """Over every block of the vectors that is read, and every plan of them that passes rule 7."""
+    """Over every block of the vectors that is read, and every third plan of them that passes rule 7."""
     blocks = {block_of(data) for data in read_blocks()}
-    plans = [places.changed(group.plan, case.edits) for group in plan_groups() for case in group.cases]
+    plans = [places.changed(group.plan, case.edits) for group in plan_groups() for case in group.cases[::3]]
     written = {block.write(plan, write_cases.least_version(plan)) for plan in plans if not jobs.breaks_rule_7(plan)}
     assert {block.version_of(data) for data in written} == {1, 2}
     assert len(blocks) > 500 and len(written) > 500
@@ -1038,12 +1393,13 @@ def test_text_identities():
 
 def test_texts_near_by():
     """Every text that one byte changed, put in or left out makes of a good one: an accepted one is its block's text."""
-    first, second = author_cases.joined(author_cases.LINES), author_cases.joined(author_cases.SECOND_LINES)
-    texts = {good[:at] + byte + good[at + gone:] for good, step in ((first, 1), (second, 5))
+    first, second, mmr = (author_cases.joined(lines) for lines in (
+        author_cases.LINES, author_cases.SECOND_LINES, author_cases.MMR_LINES))
+    texts = {good[:at] + byte + good[at + gone:] for good, step in ((first, 1), (second, 5), (mmr, 3))
              for at in range(0, len(good) + 1, step) for gone in (0, 1)
              for byte in (b"", b"0", b"7", b"-", b" ", b"\n")}
     refused = accepted = 0
-    for text in texts - {first, second}:
+    for text in texts - {first, second, mmr}:
         try:
             data = author.made_of("x", text)
         except picture.NotWritten:
@@ -1070,7 +1426,9 @@ def test_what_author_answers():
         ((19, "poly_coef -65 0"), "line 19: refused 5 (field): poly_coef_int[0][0][0] is -65, allowed -64 to 63"),
         ((20, "poly_coef 1 8388608"), "line 20: refused 5 (field): poly_coef[0][0][1] is 8388608, "
                                       "allowed less than 8388608"),
-        ((29, "mapping_idc 1"), "line 29: refused 6 (method): mapping_idc[1][0] is 1, allowed 0"),
+        ((29, "mapping_idc 1"), "line 30: mmr_order_minus1 is expected"),
+        ((29, "mapping_idc 2"), "line 29: refused 5 (field): mapping_idc[1][0] is 2, allowed 0 or 1"),
+        ((17, "mapping_idc 1"), "line 17: refused 5 (field): mapping_idc[0][0] is 1, allowed 0"),
         ((48, "linear_deadzone_threshold 2 0"), "line 48: refused 5 (field): linear_deadzone_threshold_int[2] is 2, "
                                                 "allowed 0 to 1"),
         ((6, "EL_bit_depth_minus8 0"), "line 6: refused 4 (header): EL_bit_depth_minus8 is 0, "
@@ -1093,6 +1451,52 @@ def test_what_author_answers():
     # the first one does: two sections of one byte 0 follow
     made = plan_text.read_text(author_cases.changed(lines[:14], (14, "num_pivots_minus2 99")))
     assert made.data[24:] == bytes([99, 0, 0]) + bytes([0, 27, 0, 3, 0, 2, 0, 1, 0, 1, 0, 0])
+    # a method that a component does not have: the section ends at it, six bytes long, and nothing after it is read
+    for text in (b"mapping_idc 7", b"mapping_idc 7\n", b"mapping_idc 7 and more"):
+        made = plan_text.read_text(author_cases.joined(lines[:28]) + text)
+        assert made.data[58:] == bytes([0, 0, 0, 3, 255, 7, 0]) + bytes([0, 65, 0, 41, 0, 7, 0, 1, 0, 1, 0, 0])
+        assert author.refusal("x", made) == "x: line 29: refused 5 (field): mapping_idc[1][0] is 7, allowed 0 or 1"
+    made = plan_text.read_text(author_cases.changed(lines[:17], (17, "mapping_idc 1")))
+    assert made.data[24:32] == bytes([0, 0, 0, 3, 255, 1, 0, 0]) and made.lines[29] == 17
+
+
+def test_what_author_answers_of_mmr():
+    """By hand: line 28 is piece 0 of Cb, 29 mapping_idc, 30 the order, 31 the constant, 32 to 38 the coefficients."""
+    lines = author_cases.MMR_LINES
+    assert lines[27:33] == ["piece 0", "mapping_idc 1", "mmr_order_minus1 0", "mmr_constant 0 4194304",
+                            "mmr_coef -2 0", "mmr_coef -1 1000"] and lines[38] == "nlq_offset 512"
+    made = plan_text.read_text(author_cases.joined(lines))
+    assert len(made.data) == 138 + 54 + 110 and block.read(made.data)[0] == 0
+    # Cb begins at 58: mapping_idc at 63, the order at 64, the constant at 65 and 69, coefficients from 73 on
+    assert made.data[63:89] == bytes.fromhex("0100" "0000000000400000" "fffffffe00000000" "ffffffff000003e8")
+    assert [made.lines[place] for place in (63, 64, 65, 69, 73, 77, 81, 121, 125, 129)] == [
+        29, 30, 31, 31, 32, 32, 33, 38, 38, 39]
+
+    def said(*edits):
+        try:
+            return author.made_of("x", author_cases.changed(lines, *edits))
+        except picture.NotWritten as why:
+            return str(why)
+    expected = [
+        ((30, "mmr_order_minus1 3"), "refused 5 (field): mmr_order_minus1[1][0] is 3, allowed 0 to 2"),
+        ((31, "mmr_constant 65536 0"), "refused 5 (field): mmr_constant_int[1][0] is 65536, allowed -65536 to 65535"),
+        ((31, "mmr_constant -65537 0"), "refused 5 (field): mmr_constant_int[1][0] is -65537, "
+                                        "allowed -65536 to 65535"),
+        ((31, "mmr_constant 1 8388608"), "refused 5 (field): mmr_constant[1][0] is 8388608, allowed less than 8388608"),
+        ((35, "mmr_coef 2147483647 0"), "refused 5 (field): mmr_coef_int[1][0][1][3] is 2147483647, "
+                                        "allowed -65536 to 65535"),
+        ((38, "mmr_coef 0 4294967295"), "refused 5 (field): mmr_coef[1][0][1][6] is 4294967295, "
+                                        "allowed less than 8388608"),
+        ((38, "mmr_coef 2147483648 0"), "2147483648 does not fit mmr_coef, which holds -2147483648 to 2147483647"),
+        ((38, "nlq_offset 512"), "mmr_coef is expected"),
+        ((39, "mmr_coef 0 0"), "nlq_offset is expected"),
+        ((30, "mmr_order_minus1 1"), None),
+    ]
+    for edit, found in expected[:-1]:
+        assert said(edit) == "x: line %d: %s" % (edit[0], found), said(edit)
+    assert said(expected[-1][0]) == "x: line 39: mmr_coef is expected"
+    for edit in ((31, "mmr_constant -65536 8388607"), (38, "mmr_coef 65535 8388607"), (33, "mmr_coef -1 0")):
+        assert isinstance(said(edit), bytes)
 
 
 def test_author():
@@ -1192,6 +1596,22 @@ def test_compose_version_2():
         assert large.compose_file(folder.path("block"), folder.path("base"), "none") == composed
 
 
+def test_compose_mmr():
+    """By hand: Cb is 1.0 of s0, the down-sampled luma, and Cr is 1/2 of s1; code s comes to 4s, half of it to 2s."""
+    one = 1 << 15
+    plan = mmr_plan(numbers(1, c1=one))
+    set_section(plan, 2, (0, 1023), [numbers(3, c2=one // 2)])
+    plan.half_width, plan.half_height = 2, 1
+    luma = [10, 20, 30, 40, 11, 21, 31, 41]
+    composed = raw(*(4 * s for s in luma), 4 * 14, 4 * 31, 2 * 600, 2 * 700)
+    with Folder() as folder:
+        folder.put("block", block.write(plan))
+        folder.put("base", raw(*luma, 600, 700, 800, 900))
+        assert folder.said("block", "base", "none", "out")[-1] == "written"
+        assert picture.contents(folder.path("out")) == composed
+        assert large.compose_file(folder.path("block"), folder.path("base"), "none") == composed
+
+
 def test_bands():
     """98,304 samples: 8 row pairs of 4096, and 16,384 row pairs of 2, of which no picture has so many."""
     plan = tall_plan(1152)
@@ -1212,9 +1632,11 @@ def composes_whole(case):
 
 def test_large():
     """large.py composes what picture.py composes: several pictures, both depths, with and without an enhancement."""
-    chosen = [case for case in all_samples()[::20] if composes_whole(case)]
+    chosen = [case for case in all_samples()[::20] + by_kind(all_samples())["MMR flag 0"] if composes_whole(case)]
     assert len(chosen) >= 20
     assert {(case.plan.BL_bit_depth, case.version) for case in chosen} == {(8, 1), (8, 2), (10, 1), (10, 2)}
+    mmr = [{cmp for cmp in (1, 2) if composer.has_mmr(case.plan, cmp)} for case in chosen]
+    assert all(some in mmr for some in (set(), {1}, {2}, {1, 2}))
     for case in chosen:
         enhancement = case.enhancement if case.plan.disable_residual_flag == 0 else []
         _, composed = jobs.job(case.plan, case.first, case.count, case.base, case.enhancement, list(case.base))

@@ -11,20 +11,21 @@ import block
 import limits
 import writer
 from block_cases import all_cases as all_block_cases
-from block_cases import data_of, longest_plan, small_plan
+from block_cases import data_of, longest_mmr_plan, longest_plan, mmr_plan, small_plan
 from composer import Plan
 from generator import Generator
 from jobs import breaks_rule_7
 from limits import LONGEST_BLOCK, N, SHORTEST_BLOCK, VERSIONS, denominators
+from mmr_cases import random_mmr_plan
 from places import PIECE, changed
-from plan_cases import base_plan, header_cases, place_cases, random_cases
+from plan_cases import base_plan, counts_by, header_cases, method_cases, place_cases, random_cases
 from sample_cases import random_plan
 
 Group = namedtuple("Group", "data cases")       # data: a block, from which the plan is read
 Case = namedtuple("Case", "kind edits version size first")      # of the slice: its length, what it begins with
 
-LARGEST_BLOCK = 4096        # of those that are read, with the bytes before their header
-LARGEST_SLICE = 1248
+LARGEST_BLOCK = 8192        # of those that are read, with the bytes before their header
+LARGEST_SLICE = 6720
 NO_VERSIONS = (0, 3, 255, 256, 257, 258, 513, 32769, 65535)
 
 SHOWS = {
@@ -60,8 +61,9 @@ SHOWS = {
         "pivots in place of their differences", "no profile", "no d", "no bl", "no el", "no hdr", "no flag",
         "no half_width", "no half_height", "no lum_max", "no lum_min"),
     "bad place": (
-        "unused places not tested", "the method not tested", "the darkest luminance not tested", "12 before 7",
-        "12 for 7", "7 after the slice was cleared"),
+        "unused places not tested", "luma's method not tested", "methods above 1 taken for MMR",
+        "methods above 1 taken for polynomials", "polynomials by the range of MMR",
+        "the darkest luminance not tested", "12 before 7", "12 for 7", "7 after the slice was cleared"),
     "shape": (
         "the last piece lost", "three coefficients always", "the longest block's length", "distances of one byte"),
     "fraction": (
@@ -74,6 +76,26 @@ SHOWS = {
         "a fraction with the integer part's sign", "slope and threshold swapped", "little endian",
         "distances to the trailer's end", "the last byte left", "zeros only"),
     "plan of zeros": ("12 before 7", "7 after the slice was cleared"),
+    "MMR slice": (
+        "exact fit refused", "12 after a part was written", "lengths by their low bytes", "the last byte left",
+        "distances of one byte", "the longest block's length", "MMR refused", "MMR integer parts of two bytes"),
+    "MMR good place": (
+        "MMR refused", "MMR by the range of polynomials", "MMR's method lost", "MMR's order for the order less 1",
+        "the constant last", "MMR numbers by term", "all three orders always", "the last MMR number lost",
+        "MMR integer parts of one byte", "MMR integer parts of two bytes", "MMR integer parts of 16 bits",
+        "little endian", "a fraction with the integer part's sign"),
+    "MMR bad place": (
+        "unused MMR numbers not tested", "luma's method not tested", "methods above 1 taken for MMR",
+        "polynomials by the range of MMR", "unused places not tested", "12 for 7", "7 after the slice was cleared"),
+    "MMR shape": ("the last piece lost", "version 1 of pieces that differ", "the last MMR number lost"),
+    "MMR fraction": (
+        "a fraction with the integer part's sign", "a fraction of 32 bits", "the integer part's sign lost",
+        "MMR integer parts of one byte", "MMR integer parts of 16 bits", "MMR by the range of polynomials"),
+    "MMR last pieces differ": (
+        "only three coefficients compared", "the last coefficients not compared", "the methods not compared",
+        "only first and second orders compared", "the orders not compared", "only Cb's pieces compared",
+        "Cr's pieces not compared", "12 before the pieces are compared"),
+    "MMR random plan": ("the constant last", "MMR numbers by term", "MMR integer parts of two bytes"),
 }
 
 
@@ -116,23 +138,23 @@ def plan_of(data):
 
 
 def slice_cases(groups, generator):
-    """Every length up to the shortest block's, and those about the longest one's and its low byte."""
+    """Every length up to the shortest block's, and those about long ones' and their low bytes."""
     shortest, longest = SHORTEST_BLOCK[1], LONGEST_BLOCK[1]
     groups.begin(block.write(small_plan(10, denominators(10)[0])))
     for size in (*range(shortest + 3), shortest + 256, longest, LARGEST_SLICE):
         groups.add("slice", 0 if size >= shortest else 12, [], 1, size)
     for depth, d in ((10, denominators(10)[-1]), (8, denominators(8)[0])):
-        groups.begin(block.write(longest_plan(depth, d, generator)))
-        for size in long_slices(1):
-            groups.add("slice", 0 if size >= longest else 12, [], 1, size)
+        long_slices(groups, "slice", longest_plan(depth, d, generator), 1)
 
 
-def long_slices(version):
-    """Lengths about the longest block's and its low byte."""
-    longest = LONGEST_BLOCK[version]
-    low = longest % 256
-    return (0, 1, 12, 24, 36, SHORTEST_BLOCK[version], low - 1, low, low + 1, 512 + low, longest - 12, longest - 1,
-            longest, longest + 1, longest + 16, LARGEST_SLICE)
+def long_slices(groups, kind, plan, version, more=()):
+    """Lengths about a long block's and its low byte."""
+    data = block.write(plan, version)
+    size, low = len(data), len(data) % 256
+    groups.begin(data)
+    for given in (0, 1, 12, 24, 36, SHORTEST_BLOCK[version], low - 1, low, low + 1, 512 + low, size - 12, size - 1,
+                  size, size + 1, size + 16, LARGEST_SLICE, *more):
+        groups.add(kind, 0 if given >= size else 12, [], version, given)
 
 
 def second_slice_cases(groups, generator):
@@ -142,9 +164,7 @@ def second_slice_cases(groups, generator):
     for size in (0, 11, SHORTEST_BLOCK[1] - 1, SHORTEST_BLOCK[1], *range(shortest - 13, shortest + 3), shortest + 256,
                  longest, LARGEST_SLICE):
         groups.add("slice, version 2", 0 if size >= shortest else 12, [], 2, size)
-    groups.begin(block.write(longest_plan(10, 27, generator, 2), 2))
-    for size in (*long_slices(2), LONGEST_BLOCK[1], LONGEST_BLOCK[1] - 1):
-        groups.add("slice, version 2", 0 if size >= longest else 12, [], 2, size)
+    long_slices(groups, "slice, version 2", longest_plan(10, 27, generator, 2), 2, (1008, 1007))
 
 
 def version_cases(groups, generator):
@@ -208,8 +228,9 @@ def second_shape_cases(groups, generator):
 def last_pieces_alike(plan, cmp):
     """Edits that make piece n + 1 what piece n is."""
     n = plan.num_pivots_minus2[cmp]
-    return ([((name, cmp, n + 1), getattr(plan, name)[cmp][n]) for name in ("mapping_idc", "poly_order_minus1")]
-            + [(("fp_poly_coef", cmp, n + 1, i), z) for i, z in enumerate(plan.fp_poly_coef[cmp][n])])
+    return ([((name, cmp, n + 1), getattr(plan, name)[cmp][n]) for name in ("mapping_idc", "order_minus1")]
+            + [(("fp_coef", cmp, n + 1, i), z) for i, z in enumerate(plan.fp_coef[cmp][n])
+               if z != plan.fp_coef[cmp][n + 1][i]])
 
 
 def same_orders(plan, order):
@@ -217,9 +238,9 @@ def same_orders(plan, order):
     edits = []
     for cmp in range(3):
         for piece in range(limits.pieces(plan.num_pivots_minus2[cmp])):
-            edits.append((("poly_order_minus1", cmp, piece), order))
+            edits.append((("order_minus1", cmp, piece), order))
             if order == 0:
-                edits.append((("fp_poly_coef", cmp, piece, 2), 0))
+                edits.append((("fp_coef", cmp, piece, 2), 0))
     return edits
 
 
@@ -240,7 +261,7 @@ def fraction_cases(groups):
         for at, z in enumerate(coefficients_to_write(d)):
             for i in range(3):
                 pieces = (1,) if (at + i) % 4 == 3 else (0, 1)
-                edits = [(("fp_poly_coef", (at + i) % 3, piece, i), z) for piece in pieces]
+                edits = [(("fp_coef", (at + i) % 3, piece, i), z) for piece in pieces]
                 groups.add_fitting("fraction", edits, (at % 2,))
         numbers = limits.nlq_numbers(d)
         for at, v in enumerate((0, 1, (1 << d) - 1, 1 << d, (1 << d) + 1, numbers[-1])):
@@ -268,15 +289,21 @@ def random_plans(groups, generator, number, version=1):
         groups.add_fitting("random plan", [], (-1, 0, 1 + generator.below(100)), version)
 
 
+WRITTEN_MMR = ("MMR valid", "MMR valid, version 2", "MMR longest", "MMR longest, version 2")
+
+
 def blocks_as_read(groups):
-    """Every block that block_vectors accepts, with the bytes before its header; some as the other version too."""
+    """Every block that block_vectors accepts, with the bytes before its header; some as the other version too.
+
+    Of those with other MMR numbers every fourth.
+    """
     bases, cases = all_block_cases()
     accepted = {}
-    for case in cases:
+    for at, case in enumerate(cases):
         data = data_of(bases, case)
         if data not in accepted and block.read(data)[0] == 0:
-            accepted[data] = True
-    for at, data in enumerate(accepted):
+            accepted[data] = case.kind.startswith("MMR") and case.kind not in WRITTEN_MMR and at % 4 > 0
+    for at, data in enumerate(data for data, is_left_out in accepted.items() if not is_left_out):
         version = block.version_of(data)
         groups.begin(data)
         groups.add_fitting("as read", [], (at % 3,), version)
@@ -292,7 +319,7 @@ def differing_cases(groups, generator):
         groups.begin(block.write(plan))
         for cmp in range(3):
             for edits in one_field(plan, cmp):
-                groups.add("last pieces differ", 7, edits, 1, LONGEST_BLOCK[1])
+                groups.add("last pieces differ", 7, edits, 1, writer.length(plan, 1))
                 groups.add("last pieces differ", 7, edits, 1, writer.length(plan, 1) - 1)
                 groups.add_fitting("last pieces differ", edits, (0,), 2)
 
@@ -300,15 +327,119 @@ def differing_cases(groups, generator):
 def one_field(plan, cmp):
     """Edits that change the order of one of the two pieces, or one coefficient; in range with each of them."""
     n = plan.num_pivots_minus2[cmp]
-    order = plan.poly_order_minus1[cmp][n]
+    order = plan.order_minus1[cmp][n]
     for piece in (n, n + 1):
         for i in range(limits.coefs(order)):
-            place = ("fp_poly_coef", cmp, piece, i)
-            z = plan.fp_poly_coef[cmp][n][i]
+            place = ("fp_coef", cmp, piece, i)
+            z = plan.fp_coef[cmp][n][i]
             yield [(place, z + 1 if z < 0 else z - 1)]
         # the third coefficient is 0, so that no more than the order differs
-        thirds = [(("fp_poly_coef", cmp, both, 2), 0) for both in (n, n + 1) if order == 1]
-        yield [(("poly_order_minus1", cmp, piece), 1 - order)] + thirds
+        thirds = [(("fp_coef", cmp, both, 2), 0) for both in (n, n + 1) if order == 1]
+        yield [(("order_minus1", cmp, piece), 1 - order)] + thirds
+
+
+# MMR ------------------------------------------------------------------------
+
+def mmr_slice_cases(groups, generator):
+    """The longest blocks of both versions, and the shortest with MMR in both chroma sections."""
+    for depth, d, version in ((10, denominators(10)[-1], 1), (8, denominators(8)[0], 2)):
+        long_slices(groups, "MMR slice", longest_mmr_plan(depth, d, generator, version), version,
+                    (1008, 1059, LONGEST_BLOCK[3 - version]))
+    for version in VERSIONS:
+        plan = mmr_plan(10, 20, (0, 0), version)
+        groups.begin(block.write(plan, version))
+        for more in (-64, -8, -4, -1, 0, 1, 256):
+            groups.add("MMR slice", 0 if more >= 0 else 12, [], version, writer.length(plan, version) + more)
+        groups.add("MMR slice", 7, [], 3, LARGEST_SLICE)
+
+
+def mmr_place_groups(groups, generator):
+    """Every place of chroma by itself, used by MMR, by polynomials and by none, as place_groups does."""
+    for depth, d, sizes, first in ((8, 24, (0, 1, 0), 0), (10, denominators(10)[0], (1, 0, 2), 1)):
+        plan = base_plan(depth, d, sizes, generator, 1, counts_by(first, (2, 15, 8, 3)))
+        data = block.write(plan)
+        groups.begin(data)
+        near = max(sizes) + 3
+        chosen = [case for case in place_cases(plan, lambda place: place[2] < near) if is_near(case.edits[0][0], near)]
+        for at, case in enumerate(chosen + method_cases(plan, 0) + method_cases(plan, 2)):
+            if breaks_rule_7(changed(plan, case.edits)):
+                groups.add("MMR bad place", 7, case.edits, 2, (0, len(data) - 1, len(data), len(data) + 9)[at % 4])
+            else:
+                groups.add_fitting("MMR good place", case.edits, ((0,), (1,), (17,), (-1, 0))[at % 4])
+
+
+def is_near(place, near):
+    """A place of one of the first pieces of chroma."""
+    return place[0] in PIECE and place[1] > 0 and place[2] < near
+
+
+def mmr_shape_cases(groups, generator):
+    """Several numbers of pieces, methods and orders in turn, in both versions."""
+    for n in (0, 1, 2, 7, N[-1]):
+        for version in VERSIONS:
+            sizes = (n % 4, n, (n + 9) % len(N))
+            plan = base_plan(10, 24, sizes, generator, version, counts_by(n % 2, (8, 3, 15, 2)))
+            groups.begin(block.write(plan, version))
+            groups.add_fitting("MMR shape", [], (-1, 0, 2), version)
+            if version == 1:
+                groups.add_fitting("MMR shape", [], (n % 2 - 1,), 2)
+            else:
+                groups.add("MMR shape", 7, [], 1, writer.length(plan, 2))
+
+
+def mmr_numbers_to_write(d):
+    """Below zero with and without a fraction, both ends, those of fewer bytes, and the least beside whole numbers."""
+    one, allowed = 1 << d, limits.coefficients(d, limits.MMR)
+    return (allowed[0], allowed[0] + 1, -32769 * one + 5, -257 * one, -129 * one + 1, -65 * one, -one, -one + 1,
+            -one // 2, -1, 0, 1, one - 1, one, 63 * one, 64 * one, 128 * one, 256 * one + 1, 32768 * one,
+            allowed[-1] - one + 1, allowed[-1])
+
+
+def mmr_fraction_cases(groups):
+    """Each such number in some places of a row, for several d; written as in fraction_cases."""
+    for depth, d in ((8, 13), (10, 15), (10, 23), (8, 32)):
+        groups.begin(block.write(mmr_plan(depth, d, (2, 1))))
+        for at, z in enumerate(mmr_numbers_to_write(d)):
+            for k, i in enumerate((0, 1 + at % 7, 8 + at % 7, 15 + at % 7)):
+                cmp = 1 if i > 14 else 1 + (at + k) % 2
+                pieces = (1,) if (at + k) % 4 == 3 else (0, 1)
+                groups.add_fitting("MMR fraction", [(("fp_coef", cmp, piece, i), z) for piece in pieces], (at % 2,))
+
+
+def mmr_differing_cases(groups, generator):
+    """Pieces n and n + 1 that differ in one number, in the order or in the method alone, as in differing_cases."""
+    for plan in (mmr_plan(10, 20, (0, 2)), mmr_plan(8, 13, (2, 1)),
+                 base_plan(8, 25, (1, 2, 0), generator, 1, lambda cmp, piece: (22, 2)[(cmp + piece) % 2])):
+        groups.begin(block.write(plan))
+        for cmp in (1, 2):
+            for at, edits in enumerate(one_mmr_field(plan, cmp)):
+                groups.add("MMR last pieces differ", 7, edits, 1, writer.length(plan, 1) - at % 2)
+                groups.add_fitting("MMR last pieces differ", edits, (0,), 2)
+
+
+def one_mmr_field(plan, cmp):
+    """Edits of one number of one of the two pieces; of its method, or of its order, where both have but the numbers of
+    the lowest polynomial."""
+    n = plan.num_pivots_minus2[cmp]
+    idc, order = plan.mapping_idc[cmp][n], plan.order_minus1[cmp][n]
+    used = limits.coefs(order, idc)
+    for i in range(used):
+        z = plan.fp_coef[cmp][n][i]
+        yield [(("fp_coef", cmp, n + i % 2, i), z + 1 if z < 0 else z - 1)]
+    lowest = limits.coefs(0, limits.POLYNOMIAL)
+    alike = [((name, cmp, piece), 0) for name in ("mapping_idc", "order_minus1") for piece in (n, n + 1)]
+    alike += [(("fp_coef", cmp, piece, i), i + 1 if i < lowest else 0) for piece in (n, n + 1) for i in range(used)]
+    for piece in (n, n + 1):
+        yield alike + [(("mapping_idc", cmp, piece), limits.MMR)]
+        yield alike + [(("mapping_idc", cmp, both), limits.MMR) for both in (n, n + 1)] + [
+            (("order_minus1", cmp, piece), 1 + piece % 2)]
+
+
+def random_mmr_plans(groups, generator, number, version=1):
+    for _ in range(number):
+        plan = random_mmr_plan(((2, 2), (1920, 1080), (4096, 2304)), generator, version)
+        groups.begin(block.write(plan, version))
+        groups.add_fitting("MMR random plan", [], (-1, 0, 1 + generator.below(100)), version)
 
 
 def zero_cases(groups):
@@ -336,4 +467,12 @@ def all_groups():
     second_shape_cases(groups, generator)
     differing_cases(groups, generator)
     random_plans(groups, generator, 12, 2)
+    generator = Generator(503)
+    mmr_slice_cases(groups, generator)
+    mmr_place_groups(groups, generator)
+    mmr_shape_cases(groups, generator)
+    mmr_fraction_cases(groups)
+    mmr_differing_cases(groups, generator)
+    random_mmr_plans(groups, generator, 16)
+    random_mmr_plans(groups, generator, 8, 2)
     return groups.all

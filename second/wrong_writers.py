@@ -75,16 +75,17 @@ def last_piece_lost(plan, version):
     """One piece less than the version has; a section of a single piece is as it should be."""
     def cut(cmp, section):
         last = limits.carried(plan.num_pivots_minus2[cmp], version) - 1
-        size = 2 + 5 * limits.coefs(plan.poly_order_minus1[cmp][last]) if last > 0 else 0
+        size = len(block.piece_bytes(plan, cmp, last)) if last > 0 else 0
         after = len(section) - 2 - 3 * 5
         return section[:after - size] + section[after:]
     return [cut(cmp, section) for cmp, section in enumerate(sections_of(plan, version))]
 
 
 def three_coefficients(plan, version):
-    """The third coefficient of every piece, used or not."""
-    return sections_of(changed(plan, [(("poly_order_minus1", cmp, piece), 1) for cmp in range(3)
-                                      for piece in range(limits.pieces(plan.num_pivots_minus2[cmp]))]), version)
+    """The third coefficient of every polynomial, used or not."""
+    return sections_of(changed(plan, [(("order_minus1", cmp, piece), 1) for cmp in range(3)
+                                      for piece in range(limits.pieces(plan.num_pivots_minus2[cmp]))
+                                      if plan.mapping_idc[cmp][piece] == limits.POLYNOMIAL]), version)
 
 
 def last_pieces_repeated(plan, version):
@@ -93,6 +94,34 @@ def last_pieces_repeated(plan, version):
     for cmp in range(3):
         block.repeat_last_piece(alike, cmp)
     return sections_of(alike, version)
+
+
+def other_pieces(bytes_of):
+    """The block of other MMR pieces, which `bytes_of` gives of the order, the numbers that are used and d."""
+    def section(plan, cmp, version):
+        """The right one, with each MMR piece's bytes put in another's place."""
+        n, data = plan.num_pivots_minus2[cmp], block.section_bytes(plan, cmp, version)
+        at = 1 + 2 * limits.pivots(n)
+        out, rest = data[:at], data[len(data) - 17:]
+        for piece in range(limits.carried(n, version)):
+            order, idc = plan.order_minus1[cmp][piece], plan.mapping_idc[cmp][piece]
+            used = plan.fp_coef[cmp][piece][:limits.coefs(order, idc)]
+            out += (bytes_of(order, used, plan.coefficient_log2_denom) if idc == limits.MMR
+                    else block.piece_bytes(plan, cmp, piece))
+        return out + rest
+    return other_sections(lambda plan, version: [section(plan, cmp, version) for cmp in range(3)])
+
+
+def mmr_bytes(order, numbers, d, size=4, idc=limits.MMR):
+    """A piece with integer parts of so many bytes."""
+    parts = [((z >> d) % 256 ** size).to_bytes(size, "big") + (z % (1 << d)).to_bytes(4, "big") for z in numbers]
+    return bytes([idc, order]) + b"".join(parts)
+
+
+def by_term(numbers):
+    """All orders of a term together."""
+    rest = numbers[1:]
+    return numbers[:1] + [rest[at] for j in range(limits.MMR_TERMS) for at in range(j, len(rest), limits.MMR_TERMS)]
 
 
 def other_fields(change):
@@ -152,7 +181,7 @@ def fraction_of_32(plan, data, fields):
 
 def sign_lost(plan, data, fields):
     for integer, _ in fixed_point(fields):
-        put(data, integer, get(data, integer) % 128)
+        put(data, integer, get(data, integer) % (256 ** integer.size // 2))
 
 
 def version_1_always(plan, data, fields):
@@ -252,14 +281,14 @@ def carried_bytes(plan, version):
     return block.assemble(block.header_bytes(plan), sections_of(plan, version), version)
 
 
-ORDER = "order"
-PARTS = (ORDER, 0, 1, 2)        # of a piece of polynomials: its order, its coefficients
+METHOD, ORDER = "mapping_idc", "order_minus1"
+PARTS = (METHOD, ORDER, *range(limits.COEF_PLACES))         # of a piece: the last ones are its coefficients
 
 
 def comparing(parts, components=range(3)):
     """Version 1 is refused where pieces n and n + 1 differ in these parts, in these components."""
     def part(plan, cmp, piece, name):
-        return plan.poly_order_minus1[cmp][piece] if name == ORDER else plan.fp_poly_coef[cmp][piece][name]
+        return plan.fp_coef[cmp][piece][name] if name in range(limits.COEF_PLACES) else getattr(plan, name)[cmp][piece]
 
     def differ(plan):
         return any(part(plan, cmp, n, name) != part(plan, cmp, n + 1, name) for name in parts
@@ -275,15 +304,54 @@ def unused_cleared(plan):
         n = plan.num_pivots_minus2[cmp]
         edits += [(("pred_pivot_value", cmp, i), 0) for i in range(limits.pivots(n), limits.PIVOT_PLACES)]
         for piece in range(limits.PIECE_PLACES):
-            used = limits.coefs(plan.poly_order_minus1[cmp][piece]) if piece < limits.pieces(n) else 0
-            edits += [((name, cmp, piece), 0) for name in ("mapping_idc", "poly_order_minus1") if used == 0]
-            edits += [(("fp_poly_coef", cmp, piece, i), 0) for i in range(used, limits.COEF_PLACES)]
+            used = used_numbers(plan, cmp, piece) if piece < limits.pieces(n) else 0
+            edits += [((name, cmp, piece), 0) for name in (METHOD, ORDER) if used == 0]
+            edits += [(("fp_coef", cmp, piece, i), 0) for i in range(used, limits.COEF_PLACES)]
     return changed(plan, edits)
 
 
-def methods_cleared(plan):
-    return changed(plan, [(("mapping_idc", cmp, piece), 0) for cmp in range(3) for piece in range(limits.PIECE_PLACES)
-                          if plan.mapping_idc[cmp][piece] == limits.MMR])
+def used_numbers(plan, cmp, piece):
+    return limits.coefs(plan.order_minus1[cmp][piece], plan.mapping_idc[cmp][piece])
+
+
+def edited_pieces(change):
+    """The plan after the edits that `change` gives for each used piece: of its method, order and numbers."""
+    def mended(plan):
+        edits = []
+        for cmp in range(3):
+            for piece in range(min(limits.pieces(plan.num_pivots_minus2[cmp]), limits.PIECE_PLACES)):
+                edits += change(plan, cmp, piece)
+        return changed(plan, edits)
+    return mended
+
+
+def unused_mmr(plan, cmp, piece):
+    """The numbers after those of an MMR piece's order, cleared."""
+    if plan.mapping_idc[cmp][piece] != limits.MMR:
+        return []
+    return [(("fp_coef", cmp, piece, i), 0) for i in range(used_numbers(plan, cmp, piece), limits.COEF_PLACES)]
+
+
+def methods_as(components, seen):
+    """mapping_idc of these components is taken for `seen` of it."""
+    return edited_pieces(lambda plan, cmp, piece: [((METHOD, cmp, piece), seen(plan.mapping_idc[cmp][piece]))]
+                         if cmp in components else [])
+
+
+def large_polynomials(plan, cmp, piece):
+    """A polynomial's numbers that only MMR has the range for, brought into range."""
+    d = plan.coefficient_log2_denom
+    allowed, seen = limits.coefficients(min(d, 32)), limits.coefficients(min(d, 32), limits.MMR)
+    return [(("fp_coef", cmp, piece, i), min(max(z, allowed[0]), allowed[-1]))
+            for i, z in enumerate(plan.fp_coef[cmp][piece])
+            if plan.mapping_idc[cmp][piece] == limits.POLYNOMIAL and z in seen]
+
+
+def has_large_mmr(plan):
+    """Whether an MMR number is beyond a polynomial's range."""
+    allowed = limits.coefficients(plan.coefficient_log2_denom)
+    return any(z not in allowed for cmp in (1, 2) for idc, row in zip(plan.mapping_idc[cmp], plan.fp_coef[cmp])
+               if idc == limits.MMR for z in row)
 
 
 def luminance_cleared(plan):
@@ -339,12 +407,35 @@ WRONG = {
     "Cr's pieces not compared": comparing(PARTS, [0, 1]),
     "only the orders compared": comparing([ORDER]),
     "only the first coefficients compared": comparing([0]),
-    "the orders not compared": comparing([0, 1, 2]),
-    "the third coefficients not compared": comparing([ORDER, 0, 1]),
+    "the orders not compared": comparing([part for part in PARTS if part != ORDER]),
+    "the methods not compared": comparing([part for part in PARTS if part != METHOD]),
+    "the third coefficients not compared": comparing([part for part in PARTS if part != 2]),
+    "only three coefficients compared": comparing(PARTS[:5]),
+    "the last coefficients not compared": comparing(PARTS[:-1]),
+    "only first and second orders compared": comparing(PARTS[:-limits.MMR_TERMS]),
     "12 before the pieces are compared": but(twelve_before_pieces),
     "a version by its low byte": versions_as(lambda version: version % 256),
     "unused places not tested": forgiving(unused_cleared),
-    "the method not tested": forgiving(methods_cleared),
+    "unused MMR numbers not tested": forgiving(edited_pieces(unused_mmr)),
+    "luma's method not tested": forgiving(methods_as([0], lambda idc: limits.POLYNOMIAL)),
+    "methods above 1 taken for MMR": forgiving(methods_as([1, 2], lambda idc: min(idc, limits.MMR))),
+    "methods above 1 taken for polynomials": forgiving(methods_as([1, 2], lambda idc: idc if idc == limits.MMR else 0)),
+    "polynomials by the range of MMR": forgiving(edited_pieces(large_polynomials)),
+    "MMR by the range of polynomials": lending(block.write, lambda plan, version: writer.refuses(plan, version)
+                                               or has_large_mmr(plan)),
+    "MMR refused": lending(block.write, lambda plan, version: writer.refuses(plan, version)
+                           or any(limits.MMR in row for row in plan.mapping_idc)),
+    "MMR's method lost": other_pieces(lambda order, numbers, d: mmr_bytes(order, numbers, d, idc=limits.POLYNOMIAL)),
+    "MMR's order for the order less 1": other_pieces(lambda order, numbers, d: mmr_bytes(order + 1, numbers, d)),
+    "the constant last": other_pieces(lambda order, numbers, d: mmr_bytes(order, numbers[1:] + numbers[:1], d)),
+    "MMR numbers by term": other_pieces(lambda order, numbers, d: mmr_bytes(order, by_term(numbers), d)),
+    "all three orders always": other_pieces(
+        lambda order, numbers, d: mmr_bytes(order, numbers + [0] * (limits.COEF_PLACES - len(numbers)), d)),
+    "the last MMR number lost": other_pieces(lambda order, numbers, d: mmr_bytes(order, numbers[:-1], d)),
+    "MMR integer parts of one byte": other_pieces(lambda order, numbers, d: mmr_bytes(order, numbers, d, 1)),
+    "MMR integer parts of two bytes": other_pieces(lambda order, numbers, d: mmr_bytes(order, numbers, d, 2)),
+    "MMR integer parts of 16 bits": other_pieces(lambda order, numbers, d: mmr_bytes(
+        order, [((z >> d) + 32768) % 65536 - 32768 << d | z % (1 << d) for z in numbers], d)),
     "the darkest luminance not tested": forgiving(luminance_cleared),
     "a length though the version is refused": Writer(
         writer.write_into, lambda plan, version: writer.length(plan, version if version in VERSIONS else VERSIONS[0])),

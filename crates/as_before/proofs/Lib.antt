@@ -1,3 +1,4 @@
 pub mod Samples
 pub mod Reading
 pub mod Theorem
+pub mod Polynomials

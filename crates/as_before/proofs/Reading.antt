@@ -9,7 +9,7 @@ use lib.ListN.{length, getD, set}
 use borrow.Author.Tests.{leb-true}
 use Rattle.plan.specs.declared.Header.{Header}
 use Rattle.plan.specs.declared.Piece.{Piece}
-use Rattle.plan.specs.Ranges.{count-fits}
+use Rattle.plan.specs.Ranges.{most-n, count-fits}
 use Rattle.plan.specs.Rule7.{piece-places, pivot-places, pivots-used, no-piece, zero-piece, piece-fits}
 use Rattle.fields.specs.declared.Name.{Name}
 use Rattle.fields.specs.declared.Width.the-variants.{One}
@@ -36,7 +36,7 @@ module _ {A B C : Type 0} (r : Read A) {f : A → List ℕ → Read C} (g : A �
       go (refused k name rest) = refl
       go (got a rest) = e a rest
 
-at-end : {A B : Type 0} (name : Name) (k : ℕ) (a : A) (f : A → B) (bytes : List ℕ) → ended name k (f a) bytes ≡ (ended name k a bytes then λ a rest. got (f a) rest)
+pub at-end : {A B : Type 0} (name : Name) (k : ℕ) (a : A) (f : A → B) (bytes : List ℕ) → ended name k (f a) bytes ≡ (ended name k a bytes then λ a rest. got (f a) rest)
 unfolding ended
 at-end name k a f [] = refl
 at-end name k a f (b ∷ bytes) = refl
@@ -53,10 +53,10 @@ unfolding section section-before-r2
 same-section h k bytes =
     on-given (ranged (asked 1 k 0 0 One) count-fits bytes) _ _ (λ n. count-fits n ≡ true) (field-gives (asked 1 k 0 0 One) count-fits (λ v. 5) (λ z. omega arith) (λ v z. omega arith) bytes) (λ n few rest.
     on (repeated 0 (pivots-used n) (pivot h k) rest) _ _ (λ pivots rest.
-    on-given (repeated 0 (n + 1) (piece h k) rest) _ _ (λ l. (length l ≡ n + 1) × Each (λ q. piece-fits h q ≡ true) l) (repeated-gives _ 0 (n + 1) (piece h k) (piece-gives h k) rest) (λ pieces long rest.
+    on-given (repeated 0 (n + 1) (piece h k) rest) _ _ (λ l. (length l ≡ n + 1) × Each (λ q. piece-fits k h q ≡ true) l) (repeated-gives _ 0 (n + 1) (piece h k) (piece-gives h k) rest) (λ pieces long rest.
     on (nlq h k rest) _ _ (λ q rest.
     ap (λ (l : List Piece). ended (asked 14 k 0 0 One .name) 3 (record { n = n; preds = padded pivot-places 0 pivots; pieces = l; nlq = q }) rest) (without n few pieces (long .0))
     ∙ at-end (asked 14 k 0 0 One .name) 3 _ without-last rest))))
   where
     without : (n : ℕ) → count-fits n ≡ true → (l : List Piece) → length l ≡ n + 1 → padded piece-places zero-piece l ≡ set (padded piece-places zero-piece (l ++ (getD l n no-piece ∷ []))) (n + 1) zero-piece
-    without n few l long = rw (← long) (sym (emptied piece-places zero-piece (getD l n no-piece) l (omega (arith, long, leb-true n 15 few))))
+    without n few l long = rw (← long) (sym (emptied piece-places zero-piece (getD l n no-piece) l (omega (arith, long, leb-true n most-n few))))

@@ -1,1 +1,2 @@
 pub mod VersionOne
+pub mod Polynomials

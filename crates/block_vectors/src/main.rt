@@ -1,14 +1,16 @@
 // Reads composing blocks from standard input, and writes a line for each case: `refused N`, or `plan` and ` INDEX:VALUE` for
 // each place of the plan that is not 0. A stream that is malformed ends there.
 //
-// The input: the number of base blocks (1 byte), and for each its length (2 bytes, at most 4,096) and its bytes. Then cases to
-// the end: the base block's index (1 byte), the part that is read, from and to (2 bytes each), and the number of edits
+// The input: the number of base blocks (1 byte), and for each its length (2 bytes) and its bytes. Then cases to the
+// end: the base block's index (1 byte), the part that is read, from and to (2 bytes each), and the number of edits
 // (1 byte), each an offset (2 bytes) and the new byte.
 mod text; // numbers as text, in a line
 mod places; // a plan's places, in a line
 
 use block::Reading;
 use places::put_plan;
+use streams::BLOCK_ROOM;
+use text::LINE;
 use text::put;
 use text::put_number;
 use text::put_text;
@@ -55,13 +57,13 @@ fn base(s: &[u8], index: usize) -> usize {
 }
 
 // The base block at a place of the input.
-fn copied(s: &[u8], at: usize) -> [u8; 4096] {
-    let mut block = [0u8; 4096];
+fn copied(s: &[u8], at: usize) -> [u8; BLOCK_ROOM] {
+    let mut block = [0u8; BLOCK_ROOM];
     if at < s.len() {
         let count = pair(s, at);
         let mut i: usize = 0;
         while i < count {
-            if i < 4096 {
+            if i < BLOCK_ROOM {
                 block[i] = byte(s, at + 2 + i) as u8;
             }
             i += 1;
@@ -71,14 +73,14 @@ fn copied(s: &[u8], at: usize) -> [u8; 4096] {
 }
 
 // The block after `count` edits, which stand at a place of the input.
-fn edited(s: &[u8], given: [u8; 4096], at: usize, count: usize) -> [u8; 4096]
+fn edited(s: &[u8], given: [u8; BLOCK_ROOM], at: usize, count: usize) -> [u8; BLOCK_ROOM]
     requires { ⌜ (at ≤ length (now s)) × (count ≤ 255) ⌝ }
 {
     let mut block = given;
     let mut i: usize = 0;
     while i < count {
         let offset = pair(s, at + 3 * i);
-        if offset < 4096 {
+        if offset < BLOCK_ROOM {
             block[offset] = byte(s, at + 3 * i + 2) as u8;
         }
         i += 1;
@@ -86,7 +88,7 @@ fn edited(s: &[u8], given: [u8; 4096], at: usize, count: usize) -> [u8; 4096]
     block
 }
 
-fn put_reading(line: &mut [u8; 8192], r: Reading) -> usize {
+fn put_reading(line: &mut [u8; LINE], r: Reading) -> usize {
     if r.number == 0 {
         let plan = r.plan;
         return put_plan(line, plan);
@@ -95,15 +97,15 @@ fn put_reading(line: &mut [u8; 8192], r: Reading) -> usize {
     put_number(line, at, r.number as u64)
 }
 
-fn answer(block: [u8; 4096], from: usize, to: usize) {
+fn answer(block: [u8; BLOCK_ROOM], from: usize, to: usize) {
     if to < from {
         return;
     }
-    if 4096 < to {
+    if BLOCK_ROOM < to {
         return;
     }
     let r = block::read(&block[from..to]);
-    let mut line = [0u8; 8192];
+    let mut line = [0u8; LINE];
     let at = put_reading(&mut line, r);
     let end = put(&mut line, at, b'\n');
     write(line, end);
@@ -134,10 +136,10 @@ fn cases(s: &[u8]) {
 }
 
 // The input's bytes; the contract gives the length, which lending them as a slice needs.
-fn room() -> [u8; 131072]
-    ensures { λ r. ⌜ 131072 ≡ length r ⌝ }
+fn room() -> [u8; 262144]
+    ensures { λ r. ⌜ 262144 ≡ length r ⌝ }
 {
-    [0; 131072]
+    [0; 262144]
 }
 
 fn main() {

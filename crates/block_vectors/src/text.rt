@@ -1,8 +1,10 @@
 // Text in a line of bytes. What the line has no room for is left out.
 use saying::size;
 
-pub(crate) fn put(line: &mut [u8; 8192], at: usize, b: u8) -> usize {
-    if at < 8192 {
+pub(crate) const LINE: usize = 20480;
+
+pub(crate) fn put(line: &mut [u8; LINE], at: usize, b: u8) -> usize {
+    if at < LINE {
         line[at] = b;
         at + 1
     } else {
@@ -10,7 +12,7 @@ pub(crate) fn put(line: &mut [u8; 8192], at: usize, b: u8) -> usize {
     }
 }
 
-pub(crate) fn put_text(line: &mut [u8; 8192], at: usize, text: &[u8]) -> usize {
+pub(crate) fn put_text(line: &mut [u8; LINE], at: usize, text: &[u8]) -> usize {
     let mut end = at;
     let mut i: usize = 0;
     while i < text.len() {
@@ -20,7 +22,7 @@ pub(crate) fn put_text(line: &mut [u8; 8192], at: usize, text: &[u8]) -> usize {
     end
 }
 
-pub(crate) fn put_number(line: &mut [u8; 8192], at: usize, v: u64) -> usize {
+pub(crate) fn put_number(line: &mut [u8; LINE], at: usize, v: u64) -> usize {
     let mut text = [0u8; 20];
     let n = io::decimal(v, &mut text);
     put_text(line, at, &text[..n])
@@ -28,7 +30,7 @@ pub(crate) fn put_number(line: &mut [u8; 8192], at: usize, v: u64) -> usize {
 
 // ` INDEX:VALUE`, and nothing where the value is 0.
 pub(crate) fn put_place(
-    line: &mut [u8; 8192],
+    line: &mut [u8; LINE],
     at: usize,
     index: usize,
     negative: bool,
@@ -46,12 +48,12 @@ pub(crate) fn put_place(
     put_number(line, end, v)
 }
 
-pub(crate) fn put_signed(line: &mut [u8; 8192], at: usize, index: usize, z: i64) -> usize {
+pub(crate) fn put_signed(line: &mut [u8; LINE], at: usize, index: usize, z: i64) -> usize {
     put_place(line, at, index, z < 0, size(z))
 }
 
-pub(crate) fn write(line: [u8; 8192], n: usize) {
-    if n <= 8192 {
+pub(crate) fn write(line: [u8; LINE], n: usize) {
+    if n <= LINE {
         io::write_all(1, &line[..n]);
     }
 }

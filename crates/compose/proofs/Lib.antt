@@ -1,3 +1,4 @@
 mod Samples
+mod Chroma
 mod Meaning
 mod Accepting

@@ -1,77 +1,96 @@
--- By the tables each sample of a plane is the composed one, and the planes together are the picture. Assumes nothing.
+-- By tables, or chroma by MMR, each sample of a plane is the composed one, and the planes together are the picture. Assumes nothing.
 use mathlib.Core.Path.{_≡_, refl, sym, ap, ap₂, _∙_}
-use mathlib.Core.Bool.{Bool, true, false, _&&_, cond, true≢false}
+use mathlib.Core.Bool.{Bool, true, false, _&&_, cond}
 use mathlib.Core.List.{List}
-use Prim.Native.Nat.{ℕ, _+_, _%_, _^_, _<_, _≤_}
+use Prim.Native.Nat.{ℕ, _+_, _-_, _*_, _%_, _^_, _<_, _≤_}
+use native.Mathlib.Nat.{mul-assoc, mul-le-mul-left}
 use native.Mathlib.Omega.{arith}
+use lib.Dec.{ltb}
 use lib.IntN.{ℤ, pos}
-use lib.ListN.{length, getD}
+use lib.ListN.{length, getD, getD-replicate}
+use borrow.Author.Tests.{leb-true}
 use Rattle.runs.specs.Runs.{painted, between}
 use Rattle.runs.specs.inner.Loops.{at}
 use Rattle.runs.proofs.Between.{between-true}
 use Rattle.runs.proofs.Painting.{painted-cong, length-painted}
-use Rattle.standard.specs.Mapping.{mapped}
+use Rattle.standard.specs.Mapping.{pivot-value, pivot-idx, mapped}
+use Rattle.standard.specs.Mmr.{chroma-mapped}
 use Rattle.standard.specs.Residual.{residual, reconstructed}
+use Rattle.standard.proofs.Pieces.{idx-le}
 use Rattle.picture.specs.declared.Extent.{Extent}
 use Rattle.picture.specs.declared.Plane.{Plane}
-use Rattle.picture.specs.Picture.{of-plane, in-pairs}
+use Rattle.picture.specs.Picture.{luma-size, chroma-size, of-plane, in-pairs}
 use Rattle.picture.specs.inner.Planes.{luma-plane, cb-plane, cr-plane, in-rows, InPicture}
-use Rattle.picture.proofs.Rows.{rows-inside}
-use Rattle.picture.proofs.Three.{in-luma-plane, in-cb-plane, in-cr-plane, luma-selected, cb-selected, cr-selected, painted-planes, of-plane-ap}
+use Rattle.picture.proofs.Rows.{rows-between, rows-inside}
+use Rattle.picture.proofs.Three.{luma-four, in-luma-plane, in-cb-plane, in-cr-plane, luma-selected, cb-selected, cr-selected, painted-planes, of-plane-ap}
 use Rattle.plan.specs.declared.Header.{Header}
+use Rattle.plan.specs.declared.Nlq.{Nlq}
 use Rattle.plan.specs.declared.Component.{Component}
 use Rattle.plan.specs.declared.Plan.{Plan}
 use Rattle.plan.specs.Parameters.{mapping, quantization}
 use Rattle.plan.specs.Ranges.{bl-depth, el-depth, hdr-depth, header-fits}
-use Rattle.plan.specs.Rule7.{usable, component-fits, fitting}
-use Rattle.plan.proofs.Facts.{nlq-of, y-usable, cb-usable, cr-usable}
-use Rattle.mapping.specs.inner.Mapped.{mapped-table}
+use Rattle.plan.specs.Rule7.{pieces-used, no-piece, nlq-fits, usable, fitting}
+use Rattle.plan.proofs.Facts.{component-facts, nlq-of, y-usable, cb-usable, cr-usable}
+use Rattle.plan.proofs.Truths.{both}
+use Rattle.mapping.specs.inner.Mapped.{frame-maps, can-map, mapped-table}
+use Rattle.mapping.proofs.Mappable.{pieces-facts, usable-maps}
 use Rattle.mapping.proofs.Meaning.{mapped-found, mapped-le}
-use Rattle.residual.specs.inner.Tables.{residual-table, finished-table, cut-numbers}
+use Rattle.residual.specs.inner.Raising.{raised}
+use Rattle.residual.specs.inner.Tables.{residual-table, no-residual, finished-table, cut-numbers}
 use Rattle.residual.proofs.Meaning.{raised-found, residual-small, finished-found, cut-found}
-use Rattle.spans.specs.inner.Spans.{looked-up}
+use Rattle.spans.specs.inner.Spans.{entry, looked-up}
 use Rattle.sums.specs.inner.Sums.{cut-of, added-up}
 use Rattle.rules.specs.Rules.{extent, used}
 use Rattle.rows.specs.declared.Rows.{Rows}
 use Rattle.rows.specs.inner.Rows.{RowsIn}
 use Rattle.rows.proofs.Lending.{all-looked-up, all-added-up}
-use Rattle.planes.specs.inner.ByTables.{plain-plane, enhanced-plane, three}
-use Rattle.compose.specs.Composing.{component-at, mapped-at, residual-at, composed-at}
-use Rattle.compose.proofs.Samples.{CodesIn, CodesInPicture, plain-at, enhanced-at, by-component}
+use Rattle.mmr.specs.inner.Chroma.{chroma-after}
+use Rattle.planes.specs.inner.ByTables.{plain-plane, enhanced-plane, three, by-tables, plain-mixed, enhanced-mixed, plain-picture, enhanced-picture}
+use Rattle.compose.specs.Composing.{component-at, chroma-at, mapped-at, residual-at, composed-at}
+use Rattle.compose.proofs.Samples.{apart, CodesIn, CodesInPicture, luma-mapped, cb-mapped, cr-mapped, plain-at, enhanced-at, three-mapped}
+use Rattle.compose.proofs.Chroma.{chroma-le, both-painted}
 
-header-of : (h : Header) (c : Component) → usable h c ≡ true → header-fits h ≡ true
-header-of h c ok = go (header-fits h) (component-fits h c) ok
-  where
-    go : (a b : Bool) → (a && b) ≡ true → a ≡ true
-    go true b e = refl
-    go false b e = absurd (true≢false (sym e))
+-- ---- a component of polynomials
+-- luma has no other pieces
+luma-polynomials : (h : Header) (c : Component) → usable 0 h c ≡ true → (p : ℕ) → p < pieces-used (c .n) → getD (c .pieces) p no-piece .idc ≡ 0
+luma-polynomials h c ok p b =
+    let g = component-facts 0 h c (both (header-fits h) _ ok .1) in
+    let v = getD (c .pieces) p no-piece .idc in
+    let z : v ≤ 0 = leb-true v 0 (g .piece p (omega (arith, g .count)) .idc) in
+    omega arith
 
--- ---- one plane
-module _ (h : Header) (c : Component) (p : Plane) (r : Rows) (ok : usable h c ≡ true) (output : List ℕ) where
+-- a chroma sample of a component that goes by a table goes by itself alone
+chroma-alone : (p : Plan) (base : List ℕ) (c : Component) → can-map (p .header) c ≡ true → (s j : ℕ) → chroma-at p base c s j ≡ mapped (bl-depth (p .header)) (p .header .d) (mapping c) s
+unfolding chroma-at chroma-mapped
+chroma-alone p base c can s j =
+    let q = pivot-idx (pivot-value (mapping c .pred-pivot-value)) (c .n) s in
+    let pieces = both (frame-maps (p .header) (c .n) (c .preds)) _ can .1 in
+    let z : mapping c .mapping-idc q ≡ 0 = pieces-facts c pieces q (omega (arith, idx-le (pivot-value (mapping c .pred-pivot-value)) (c .n) s)) .method in
+    rw z refl
+
+-- ---- one plane by its tables
+module _ (h : Header) (c : Component) (p : Plane) (r : Rows) (fit : header-fits h ≡ true) (can : can-map h c ≡ true) (output base : List ℕ) (m : ℕ → ℕ) (is : (i : ℕ) → mapped (bl-depth h) (h .d) (mapping c) (at base i) ≡ m i) (g : CodesIn p r (2 ^ bl-depth h) base) (o : RowsIn p r output) where
   abbrev rows : ℕ → Bool
   rows = in-rows p (between (r .first) (r .last))
 
-  plain-by-table : (base : List ℕ) → CodesIn p r (2 ^ bl-depth h) base → painted rows (looked-up (finished-table h (mapped-table h c)) base) output ≡ painted rows (plain-at h c base) output
+  pub plain-plane-painted : plain-plane h r base c p output ≡ painted rows (plain-at h m) output
   unfolding looked-up plain-at
-  plain-by-table base g =
-      painted-cong rows rows _ _ output (λ i b. refl)
+  plain-plane-painted =
+      all-looked-up p r base output (g .rows) o _
+      ∙ painted-cong rows rows _ _ output (λ i b. refl)
       (λ i b s.
-      finished-found h (header-of h c ok) (mapped-table h c) (at base i)
-      ∙ ap (λ (v : ℕ). reconstructed (hdr-depth h) v (pos 0)) (mapped-found h c ok (at base i) (g .code i s)))
+      finished-found h fit (mapped-table h c) (at base i)
+      ∙ ap (λ (v : ℕ). reconstructed (hdr-depth h) v (pos 0)) (mapped-found h c can (at base i) (g .code i s) ∙ is i))
 
-  pub plain-plane-painted : (base : List ℕ) → CodesIn p r (2 ^ bl-depth h) base → RowsIn p r output → plain-plane h r base c p output ≡ painted rows (plain-at h c base) output
-  plain-plane-painted base g o = all-looked-up p r base output (g .rows) o _ ∙ plain-by-table base g
-
-  enhanced-by-tables : (base enhancement : List ℕ) → CodesIn p r (2 ^ bl-depth h) base → CodesIn p r (2 ^ el-depth h) enhancement → painted rows (added-up (mapped-table h c) (residual-table h (c .nlq)) (cut-numbers h) base enhancement) output ≡ painted rows (enhanced-at h c base enhancement) output
+  pub enhanced-plane-painted : (header-fits h && nlq-fits h (c .nlq)) ≡ true → (enhancement : List ℕ) → CodesIn p r (2 ^ el-depth h) enhancement → enhanced-plane h r base enhancement c p output ≡ painted rows (enhanced-at h enhancement (c .nlq) m) output
   unfolding added-up enhanced-at
-  enhanced-by-tables base enhancement g g' =
-      painted-cong rows rows _ _ output (λ i b. refl)
+  enhanced-plane-painted u enhancement g' =
+      all-added-up p r base output (g .rows) o _ _ _ enhancement (g' .rows)
+      ∙ painted-cong rows rows _ _ output (λ i b. refl)
       (λ i b s.
-      ap₂ (λ (v w : ℕ). cut-of (cut-numbers h) (v + w)) (mapped-found h c ok (at base i) (g .code i s)) (raised-found h (c .nlq) (nlq-of h c ok) (at enhancement i) (g' .code i s))
-      ∙ cut-found h (header-of h c ok) _ _ (mapped-le (bl-depth h) (h .d) (mapping c) (at base i)) (residual-small h (c .nlq) (nlq-of h c ok) (at enhancement i)))
-
-  pub enhanced-plane-painted : (base enhancement : List ℕ) → CodesIn p r (2 ^ bl-depth h) base → CodesIn p r (2 ^ el-depth h) enhancement → RowsIn p r output → enhanced-plane h r base enhancement c p output ≡ painted rows (enhanced-at h c base enhancement) output
-  enhanced-plane-painted base enhancement g g' o = all-added-up p r base output (g .rows) o _ _ _ enhancement (g' .rows) ∙ enhanced-by-tables base enhancement g g'
+      ap₂ (λ (v w : ℕ). cut-of (cut-numbers h) (v + w)) (mapped-found h c can (at base i) (g .code i s)) (raised-found h (c .nlq) u (at enhancement i) (g' .code i s))
+      ∙ cut-found h fit _ _ (mapped-le (bl-depth h) (h .d) (mapping c) (at base i)) (residual-small h (c .nlq) u (at enhancement i))
+      ∙ ap (λ (v : ℕ). reconstructed (hdr-depth h) v (residual (el-depth h) (h .d) (quantization (c .nlq)) (at enhancement i))) (is i))
 
 -- ---- the planes of a picture
 module _ (e : Extent) (r : Rows) (limit : ℕ) (run : List ℕ) (g : CodesInPicture e r limit run) where
@@ -92,40 +111,173 @@ module _ (p : Plan) (r : Rows) (output : List ℕ) (g : InPicture (extent (p .he
   abbrev e : Extent
   e = extent (p .header)
 
-  abbrev Paints : (Component → Plane → List ℕ → List ℕ) → (Component → ℕ → ℕ) → Component → Plane → Type 0
-  Paints plane value c q = (o : List ℕ) → RowsIn q r o → plane c q o ≡ painted (in-rows q (between (r .first) (r .last))) (value c) o
+  abbrev rows-of : Plane → ℕ → Bool
+  rows-of q = in-rows q (between (r .first) (r .last))
 
-  three-painted : (plane : Component → Plane → List ℕ → List ℕ) (value : Component → ℕ → ℕ) → Paints plane value (p .y) (luma-plane e) → Paints plane value (p .cb) (cb-plane e) → Paints plane value (p .cr) (cr-plane e) → three p plane output ≡ painted (in-pairs e (r .first) (r .last)) (by-component p value) output
-  three-painted plane value y cb cr =
+  -- three paintings, one over the other
+  over : (y cb cr : ℕ → ℕ) → painted (rows-of (cr-plane e)) cr (painted (rows-of (cb-plane e)) cb (painted (rows-of (luma-plane e)) y output)) ≡ painted (in-pairs e (r .first) (r .last)) (λ i. of-plane e i (y i) (cb i) (cr i)) output
+  over y cb cr = painted-planes e (g .some-columns) (between (r .first) (r .last)) (λ k h. omega (arith, between-true (r .first) (r .last) k h, g .within)) y cb cr output
+
+  abbrev Paints : (Component → Plane → List ℕ → List ℕ) → Component → Plane → (ℕ → ℕ) → Type 0
+  Paints plane c q v = (o : List ℕ) → RowsIn q r o → plane c q o ≡ painted (rows-of q) v o
+
+  three-painted : (plane : Component → Plane → List ℕ → List ℕ) (y cb cr : ℕ → ℕ) → Paints plane (p .y) (luma-plane e) y → Paints plane (p .cb) (cb-plane e) cb → Paints plane (p .cr) (cr-plane e) cr → three p plane output ≡ painted (in-pairs e (r .first) (r .last)) (λ i. of-plane e i (y i) (cb i) (cr i)) output
+  three-painted plane vy vb vr y cb cr =
       let one = y output (in-luma-plane e _ _ _ g) in
       let luma = plane (p .y) (luma-plane e) output in
       let m : length luma ≡ length output = ap length one ∙ length-painted _ _ output in
       let two = cb luma (rw m (in-cb-plane e _ _ _ g)) in
       let both = plane (p .cb) (cb-plane e) luma in
       let n : length both ≡ length output = ap length two ∙ length-painted _ _ luma ∙ m in
-      cr both (rw n (in-cr-plane e _ _ _ g)) ∙ ap (painted _ _) (two ∙ ap (painted _ _) one)
-      ∙ painted-planes e (g .some-columns) (between (r .first) (r .last)) (λ k h. omega (arith, between-true (r .first) (r .last) k h, g .within)) (value (p .y)) (value (p .cb)) (value (p .cr)) output
+      cr both (rw n (in-cr-plane e _ _ _ g)) ∙ ap (painted _ _) (two ∙ ap (painted _ _) one) ∙ over vy vb vr
 
   module _ (ok : fitting p ≡ true) (base : List ℕ) (b : CodesInPicture e r (2 ^ bl-depth (p .header)) base) where
-    pub plain-painted : three p (plain-plane (p .header) r base) output ≡ painted (in-pairs e (r .first) (r .last)) (by-component p (λ c. plain-at (p .header) c base)) output
-    plain-painted =
-        three-painted (plain-plane (p .header) r base) (λ c. plain-at (p .header) c base)
-        (λ o k. plain-plane-painted (p .header) (p .y) (luma-plane e) r (y-usable p ok) o base (in-luma e r _ base b) k)
-        (λ o k. plain-plane-painted (p .header) (p .cb) (cb-plane e) r (cb-usable p ok) o base (in-cb e r _ base b) k)
-        (λ o k. plain-plane-painted (p .header) (p .cr) (cr-plane e) r (cr-usable p ok) o base (in-cr e r _ base b) k)
+    abbrev h : Header
+    h = p .header
 
-    pub enhanced-painted : (enhancement : List ℕ) → CodesInPicture e r (2 ^ el-depth (p .header)) enhancement → three p (enhanced-plane (p .header) r base enhancement) output ≡ painted (in-pairs e (r .first) (r .last)) (by-component p (λ c. enhanced-at (p .header) c base enhancement)) output
-    enhanced-painted enhancement a =
-        three-painted (enhanced-plane (p .header) r base enhancement) (λ c. enhanced-at (p .header) c base enhancement)
-        (λ o k. enhanced-plane-painted (p .header) (p .y) (luma-plane e) r (y-usable p ok) o base enhancement (in-luma e r _ base b) (in-luma e r _ enhancement a) k)
-        (λ o k. enhanced-plane-painted (p .header) (p .cb) (cb-plane e) r (cb-usable p ok) o base enhancement (in-cb e r _ base b) (in-cb e r _ enhancement a) k)
-        (λ o k. enhanced-plane-painted (p .header) (p .cr) (cr-plane e) r (cr-usable p ok) o base enhancement (in-cr e r _ base b) (in-cr e r _ enhancement a) k)
+    fit : header-fits h ≡ true
+    fit = both (header-fits h) _ (y-usable p ok) .0
+
+    luma-can : can-map h (p .y) ≡ true
+    luma-can = usable-maps 0 h (p .y) (y-usable p ok) (luma-polynomials h (p .y) (y-usable p ok))
+
+    -- what a way of composing a plane gives of its mapped samples
+    abbrev Picture : (Component → (ℕ → ℕ) → ℕ → ℕ) → List ℕ → Type 0
+    Picture value after = after ≡ painted (in-pairs e (r .first) (r .last)) (three-mapped p base value) output
+
+    plain-luma : (o : List ℕ) → RowsIn (luma-plane e) r o → plain-plane h r base (p .y) (luma-plane e) o ≡ painted (rows-of (luma-plane e)) (plain-at h (luma-mapped p base)) o
+    plain-luma o k = plain-plane-painted h (p .y) (luma-plane e) r fit luma-can o base (luma-mapped p base) (λ i. refl) (in-luma e r _ base b) k
+
+    enhanced-luma : (enhancement : List ℕ) → CodesInPicture e r (2 ^ el-depth h) enhancement → (o : List ℕ) → RowsIn (luma-plane e) r o → enhanced-plane h r base enhancement (p .y) (luma-plane e) o ≡ painted (rows-of (luma-plane e)) (enhanced-at h enhancement (p .y .nlq) (luma-mapped p base)) o
+    enhanced-luma enhancement a o k =
+        enhanced-plane-painted h (p .y) (luma-plane e) r fit luma-can o base (luma-mapped p base) (λ i. refl) (in-luma e r _ base b) k (nlq-of 0 h (p .y) (y-usable p ok)) enhancement (in-luma e r _ enhancement a)
+
+    -- by tables alone
+    module _ (tables : by-tables p ≡ true) where
+      cb-can : can-map h (p .cb) ≡ true
+      cb-can = both (can-map h (p .cb)) _ tables .0
+
+      cr-can : can-map h (p .cr) ≡ true
+      cr-can = both (can-map h (p .cb)) _ tables .1
+
+      cb-is : (i : ℕ) → mapped (bl-depth h) (h .d) (mapping (p .cb)) (at base i) ≡ cb-mapped p base i
+      cb-is i = sym (chroma-alone p base (p .cb) cb-can (at base i) _)
+
+      cr-is : (i : ℕ) → mapped (bl-depth h) (h .d) (mapping (p .cr)) (at base i) ≡ cr-mapped p base i
+      cr-is i = sym (chroma-alone p base (p .cr) cr-can (at base i) _)
+
+      plain-tables : Picture (λ c. plain-at h) (three p (plain-plane h r base) output)
+      plain-tables =
+          three-painted (plain-plane h r base) (plain-at h (luma-mapped p base)) (plain-at h (cb-mapped p base)) (plain-at h (cr-mapped p base)) plain-luma
+          (λ o k. plain-plane-painted h (p .cb) (cb-plane e) r fit cb-can o base (cb-mapped p base) cb-is (in-cb e r _ base b) k)
+          (λ o k. plain-plane-painted h (p .cr) (cr-plane e) r fit cr-can o base (cr-mapped p base) cr-is (in-cr e r _ base b) k)
+
+      enhanced-tables : (enhancement : List ℕ) → CodesInPicture e r (2 ^ el-depth h) enhancement → Picture (λ c. enhanced-at h enhancement (c .nlq)) (three p (enhanced-plane h r base enhancement) output)
+      enhanced-tables enhancement a =
+          three-painted (enhanced-plane h r base enhancement) _ _ _
+          (λ o k. enhanced-luma enhancement a o k)
+          (λ o k. enhanced-plane-painted h (p .cb) (cb-plane e) r fit cb-can o base (cb-mapped p base) cb-is (in-cb e r _ base b) k (nlq-of 1 h (p .cb) (cb-usable p ok)) enhancement (in-cb e r _ enhancement a))
+          (λ o k. enhanced-plane-painted h (p .cr) (cr-plane e) r fit cr-can o base (cr-mapped p base) cr-is (in-cr e r _ base b) k (nlq-of 2 h (p .cr) (cr-usable p ok)) enhancement (in-cr e r _ enhancement a))
+
+    -- chroma by MMR, and luma by its table: they do not meet
+    luma-apart : (i : ℕ) → rows-of (luma-plane e) i ≡ true → i < luma-size e
+    luma-apart i t =
+        let four = luma-four e in
+        let top = mul-le-mul-left (4 * e .columns) (g .within) in
+        let m = mul-assoc 4 (e .columns) (e .pairs) in
+        omega (arith, between-true _ _ i (sym (rows-between (luma-plane e) (r .first) (r .last) i (in-luma-plane e _ _ _ g .some-columns)) ∙ t))
+
+    not-luma : (i : ℕ) (x : Bool) → (x ≡ true → luma-size e ≤ i) → x ≡ true → rows-of (luma-plane e) i ≡ false
+    not-luma i x after t = off (rows-of (luma-plane e) i) (λ u. omega (arith, luma-apart i u, after t))
+      where
+        off : (y : Bool) → (y ≡ true → ⊥) → y ≡ false
+        off true h = absurd (h refl)
+        off false h = refl
+
+    behind : (q : Plane) → 1 ≤ q .row → luma-size e ≤ q .start → (i : ℕ) → rows-of q i ≡ true → rows-of (luma-plane e) i ≡ false
+    behind q some start i t = not-luma i (rows-of q i) (λ u. omega (arith, between-true _ _ i (sym (rows-between q (r .first) (r .last) i some) ∙ u))) t
+
+    mixed : (y v1 v2 : ℕ → ℕ) (raised1 raised2 enhancement : List ℕ) (plane : List ℕ → List ℕ) → ((o : List ℕ) → RowsIn (luma-plane e) r o → plane o ≡ painted (rows-of (luma-plane e)) y o) → InPicture e (r .first) (r .last) (length enhancement)
+        → ((i : ℕ) → rows-of (cb-plane e) i ≡ true → cut-of (cut-numbers h) (cb-mapped p base i + entry raised1 (at enhancement i)) ≡ v1 i)
+        → ((i : ℕ) → rows-of (cr-plane e) i ≡ true → cut-of (cut-numbers h) (cr-mapped p base i + entry raised2 (at enhancement i)) ≡ v2 i)
+        → plane (chroma-after p (r .first) (r .last) raised1 raised2 (cut-numbers h) base enhancement output) ≡ painted (in-pairs e (r .first) (r .last)) (λ i. of-plane e i (y i) (v1 i) (v2 i)) output
+    mixed y v1 v2 raised1 raised2 enhancement plane luma a is1 is2 =
+        let four = luma-four e in
+        let blue = painted (rows-of (cb-plane e)) v1 output in
+        let chroma = painted (rows-of (cr-plane e)) v2 blue in
+        let long : length chroma ≡ length output = length-painted _ _ blue ∙ length-painted _ _ output in
+        ap plane (both-painted p ok r base (in-luma e r _ base b) (in-cb e r _ base b) (in-cr e r _ base b) raised1 raised2 enhancement (g .within) output v1 v2 (g .forward) (b .rows .whole) (a .whole) (g .whole) is1 is2)
+        ∙ luma chroma (rw long (in-luma-plane e _ _ _ g))
+        ∙ apart (rows-of (cr-plane e)) (rows-of (luma-plane e)) v2 y blue (behind (cr-plane e) (g .some-columns) (omega arith))
+        ∙ ap (painted (rows-of (cr-plane e)) v2) (apart (rows-of (cb-plane e)) (rows-of (luma-plane e)) v1 y output (behind (cb-plane e) (g .some-columns) (omega arith)))
+        ∙ over y v1 v2
+
+    none-found : (v s : ℕ) → v ≤ 65535 → cut-of (cut-numbers h) (v + entry (no-residual h) s) ≡ reconstructed (hdr-depth h) v (pos 0)
+    unfolding no-residual
+    none-found v s low = rw (fit, getD-replicate 1024 (s % 1024) (raised (hdr-depth h) (pos 0)) 0 (omega arith)) (cut-found h fit v (pos 0) low (omega arith))
+
+    some-found : (q : Nlq) (v s : ℕ) → (header-fits h && nlq-fits h q) ≡ true → v ≤ 65535 → s < 2 ^ el-depth h → cut-of (cut-numbers h) (v + entry (residual-table h q) s) ≡ reconstructed (hdr-depth h) v (residual (el-depth h) (h .d) (quantization q) s)
+    some-found q v s u low k = ap (λ (w : ℕ). cut-of (cut-numbers h) (v + w)) (raised-found h q u s k) ∙ cut-found h fit v _ low (residual-small h q u s)
+
+    cb-le : (i : ℕ) → cb-mapped p base i ≤ 65535
+    unfolding chroma-at
+    cb-le i = chroma-le (bl-depth h) (h .d) (mapping (p .y)) (mapping (p .cb)) (mapping (p .cr)) (mapping (p .cb)) (at base i) _ _ _
+
+    cr-le : (i : ℕ) → cr-mapped p base i ≤ 65535
+    unfolding chroma-at
+    cr-le i = chroma-le (bl-depth h) (h .d) (mapping (p .y)) (mapping (p .cb)) (mapping (p .cr)) (mapping (p .cr)) (at base i) _ _ _
+
+    plain-both : Picture (λ c. plain-at h) (plain-mixed p r base output)
+    unfolding plain-at
+    plain-both =
+        mixed (plain-at h (luma-mapped p base)) (plain-at h (cb-mapped p base)) (plain-at h (cr-mapped p base)) (no-residual h) (no-residual h) base (plain-plane h r base (p .y) (luma-plane e)) plain-luma (b .rows)
+        (λ i t. none-found (cb-mapped p base i) (at base i) (cb-le i))
+        (λ i t. none-found (cr-mapped p base i) (at base i) (cr-le i))
+
+    enhanced-both : (enhancement : List ℕ) → CodesInPicture e r (2 ^ el-depth h) enhancement → Picture (λ c. enhanced-at h enhancement (c .nlq)) (enhanced-mixed p r base enhancement output)
+    unfolding enhanced-at
+    enhanced-both enhancement a =
+        mixed (enhanced-at h enhancement (p .y .nlq) (luma-mapped p base)) (enhanced-at h enhancement (p .cb .nlq) (cb-mapped p base)) (enhanced-at h enhancement (p .cr .nlq) (cr-mapped p base)) _ _ enhancement (enhanced-plane h r base enhancement (p .y) (luma-plane e)) (enhanced-luma enhancement a) (a .rows)
+        (λ i t. some-found (p .cb .nlq) (cb-mapped p base i) (at enhancement i) (nlq-of 1 h (p .cb) (cb-usable p ok)) (cb-le i) (in-cb e r _ enhancement a .code i t))
+        (λ i t. some-found (p .cr .nlq) (cr-mapped p base i) (at enhancement i) (nlq-of 2 h (p .cr) (cr-usable p ok)) (cr-le i) (in-cr e r _ enhancement a .code i t))
+
+    -- either way
+    pub plain-painted : Picture (λ c. plain-at h) (plain-picture p r base output)
+    unfolding plain-picture
+    plain-painted = go (by-tables p) refl
+      where
+        go : (t : Bool) → by-tables p ≡ t → Picture (λ c. plain-at h) (cond t (three p (plain-plane h r base) output) (plain-mixed p r base output))
+        go true q = plain-tables q
+        go false q = plain-both
+
+    pub enhanced-painted : (enhancement : List ℕ) → CodesInPicture e r (2 ^ el-depth h) enhancement → Picture (λ c. enhanced-at h enhancement (c .nlq)) (enhanced-picture p r base enhancement output)
+    unfolding enhanced-picture
+    enhanced-painted enhancement a = go (by-tables p) refl
+      where
+        go : (t : Bool) → by-tables p ≡ t → Picture (λ c. enhanced-at h enhancement (c .nlq)) (cond t (three p (enhanced-plane h r base enhancement) output) (enhanced-mixed p r base enhancement output))
+        go true q = enhanced-tables q enhancement a
+        go false q = enhanced-both enhancement a
 
 -- ---- what the planes hold is what composing means
-pub plain-composed : (p : Plan) (base enhancement : List ℕ) (i : ℕ) → used (p .header) (length enhancement) ≡ false → by-component p (λ c. plain-at (p .header) c base) i ≡ composed-at p base enhancement i
-unfolding plain-at composed-at mapped-at residual-at
-plain-composed p base enhancement i off = sym (of-plane-ap (λ (c : Component). plain-at (p .header) c base i) (extent (p .header)) i (p .y) (p .cb) (p .cr)) ∙ rw off
+-- of two things of a plane
+of-plane-both : {A B : Type 0} (f : A → B → ℕ) (e : Extent) (i : ℕ) (y cb cr : A) (y' cb' cr' : B) → of-plane e i (f y y') (f cb cb') (f cr cr') ≡ f (of-plane e i y cb cr) (of-plane e i y' cb' cr')
+unfolding of-plane
+of-plane-both f e i y cb cr y' cb' cr' = go (ltb i (luma-size e)) (ltb i (luma-size e + chroma-size e))
+  where
+    go : (u v : Bool) → cond u (f y y') (cond v (f cb cb') (f cr cr')) ≡ f (cond u y (cond v cb cr)) (cond u y' (cond v cb' cr'))
+    go true v = refl
+    go false true = refl
+    go false false = refl
 
-pub enhanced-composed : (p : Plan) (base enhancement : List ℕ) (i : ℕ) → used (p .header) (length enhancement) ≡ true → by-component p (λ c. enhanced-at (p .header) c base enhancement) i ≡ composed-at p base enhancement i
+pub plain-composed : (p : Plan) (base enhancement : List ℕ) (i : ℕ) → used (p .header) (length enhancement) ≡ false → three-mapped p base (λ c. plain-at (p .header)) i ≡ composed-at p base enhancement i
+unfolding plain-at composed-at mapped-at residual-at
+plain-composed p base enhancement i off =
+    let e = extent (p .header) in
+    sym (of-plane-ap (λ (v : ℕ). reconstructed (hdr-depth (p .header)) v (pos 0)) e i (luma-mapped p base i) (cb-mapped p base i) (cr-mapped p base i)) ∙ rw off
+
+pub enhanced-composed : (p : Plan) (base enhancement : List ℕ) (i : ℕ) → used (p .header) (length enhancement) ≡ true → three-mapped p base (λ c. enhanced-at (p .header) enhancement (c .nlq)) i ≡ composed-at p base enhancement i
 unfolding enhanced-at composed-at mapped-at residual-at
-enhanced-composed p base enhancement i on = sym (of-plane-ap (λ (c : Component). enhanced-at (p .header) c base enhancement i) (extent (p .header)) i (p .y) (p .cb) (p .cr)) ∙ rw on
+enhanced-composed p base enhancement i on =
+    let h = p .header in
+    of-plane-both (λ (v : ℕ) (c : Component). reconstructed (hdr-depth h) v (residual (el-depth h) (h .d) (quantization (c .nlq)) (at enhancement i))) (extent h) i (luma-mapped p base i) (cb-mapped p base i) (cr-mapped p base i) (p .y) (p .cb) (p .cr)
+    ∙ rw on

@@ -1,15 +1,17 @@
 -- The composing process (5.4) over a picture: what stands at each index of the output after a call, and what it answers.
 use mathlib.Core.Bool.{Bool, cond}
 use mathlib.Core.List.{List, []}
-use Prim.Native.Nat.{ℕ}
+use Prim.Native.Nat.{ℕ, _+_, _-_, _*_, _/_, _%_}
 use lib.Dec.{eqb}
 use lib.IntN.{ℤ, pos}
 use lib.ListN.{length, getD}
 use Rattle.runs.specs.Runs.{painted}
 use Rattle.refusals.specs.Refusals.{Outcome, granted, denied, outcome}
 use Rattle.standard.specs.Mapping.{mapped}
+use Rattle.standard.specs.Mmr.{down-sampled, chroma-mapped}
 use Rattle.standard.specs.Residual.{residual, reconstructed}
-use Rattle.picture.specs.Picture.{of-plane, pair-at}
+use Rattle.picture.specs.declared.Extent.{Extent}
+use Rattle.picture.specs.Picture.{width, luma-size, chroma-size, of-plane, pair-at}
 use Rattle.plan.specs.declared.Component.{Component}
 use Rattle.plan.specs.declared.Plan.{Plan}
 use Rattle.plan.specs.Ranges.{bl-depth, el-depth, hdr-depth}
@@ -22,9 +24,32 @@ use Rattle.compose.specs.declared.Composed.the-variants.{Written, Refuse
 abbrev pub component-at : Plan → ℕ → Component
 component-at p i = of-plane (extent (p .header)) i (p .y) (p .cb) (p .cr)
 
+-- row y of luma, by its columns
+abbrev pub luma-row : Extent → List ℕ → ℕ → ℕ → ℕ
+luma-row e base y x = getD base (width e * y + x) 0
+
+-- 5.4.2: the mapped sample of a sample s of chroma component c, at index j of its plane: it may go by the luma beside it, and by Cb and
+-- Cr at the same index of theirs
+unfoldable pub chroma-at : Plan → List ℕ → Component → ℕ → ℕ → ℕ
+chroma-at p base c s j =
+    let h = p .header in
+    let e = extent h in
+    let k = j / e .columns in
+    chroma-mapped (bl-depth h) (h .d) (mapping (p .y)) (mapping (p .cb)) (mapping (p .cr)) (mapping c) s
+    (down-sampled (width e) (luma-row e base (2 * k)) (luma-row e base (2 * k + 1)) (j % e .columns))
+    (getD base (luma-size e + j) 0)
+    (getD base (luma-size e + chroma-size e + j) 0)
+
 -- 5.4.2: the mapped sample at index i
 unfoldable pub mapped-at : Plan → List ℕ → ℕ → ℕ
-mapped-at p base i = mapped (bl-depth (p .header)) (p .header .d) (mapping (component-at p i)) (getD base i 0)
+mapped-at p base i =
+    let h = p .header in
+    let e = extent h in
+    let s = getD base i 0 in
+    of-plane e i
+    (mapped (bl-depth h) (h .d) (mapping (p .y)) s)
+    (chroma-at p base (p .cb) s (i - luma-size e))
+    (chroma-at p base (p .cr) s (i - (luma-size e + chroma-size e)))
 
 -- 5.4.3.2: the residual at index i; 0 where the flag disables it, or where there is no enhancement picture (5.3.2)
 unfoldable pub residual-at : Plan → List ℕ → ℕ → ℤ

@@ -1,12 +1,18 @@
-// The pivots and pieces of a section. Reading has seen to it that num_pivots_minus2 is small enough; for another number
-// there are none.
+// The pivots and pieces of a section, and the coefficients of a piece. Reading has seen to it that num_pivots_minus2 and
+// the orders are small enough; for other numbers there are none.
+use plan::Piece;
 use plan::limits::MOST_N;
+use plan::limits::PIECES;
 use plan::limits::PIVOTS;
+use plan::limits::ROW;
+use plan::methods::MMR;
+use plan::methods::coefficients_used;
 use plan::versions::pieces_carried;
 use saying::end_line;
 use saying::say;
 use saying::say_number;
 ghost use Prim.Native.Nat.{_≤_};
+ghost use Rattle.plan.specs.Rule7.{row-places};
 
 pub(crate) fn pieces_of(version: u16, n: u8) -> usize
     ensures { λ r. ⌜ r ≤ 17 ⌝ }
@@ -23,6 +29,24 @@ pub(crate) fn between_pivots(n: u8) -> usize
     ensures { λ r. ⌜ r ≤ 16 ⌝ }
 {
     if n <= MOST_N { (n as usize) + 1 } else { 0 }
+}
+
+// Whether one of them is MMR. Places past the last piece are 0.
+pub(crate) fn has_mmr(pieces: [Piece; PIECES]) -> bool {
+    let mut found = false;
+    let mut p: usize = 0;
+    while p < PIECES {
+        found = found | (pieces[p].idc == MMR);
+        p += 1;
+    }
+    found
+}
+
+pub(crate) fn coefficients_of(idc: u8, order: u8) -> usize
+    ensures { λ r. ⌜ r ≤ row-places ⌝ }
+{
+    let count = coefficients_used(idc, order);
+    if count <= ROW { count } else { 0 }
 }
 
 pub(crate) fn pair(x: u16) -> usize

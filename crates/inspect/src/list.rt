@@ -1,15 +1,19 @@
 // Every field of a block, one a line, under its name in the standard.
+use crate::counts::coefficients_of;
 use crate::counts::pieces_of;
 use crate::counts::say_pivots;
 use crate::fixed::HDR_IN_MAX;
 use crate::fixed::SLOPE;
 use crate::fixed::THRESHOLD;
+use crate::fixed::show_coefficient;
 use crate::fixed::show_fixed;
 use plan::Component;
 use plan::Header;
 use plan::Nlq;
 use plan::Piece;
 use plan::limits::PIECES;
+use plan::limits::ROW;
+use plan::methods::MMR;
 use saying::end_line;
 use saying::say_line;
 use saying::say_number;
@@ -30,9 +34,11 @@ const MAPPING_IDC: usize = 16;
 
 const POLY_ORDER_MINUS1: usize = 17;
 
-const NLQ_OFFSET: usize = 18;
+const MMR_ORDER_MINUS1: usize = 18;
 
-const TRAILER: usize = 19;
+const NLQ_OFFSET: usize = 19;
+
+const TRAILER: usize = 20;
 
 fn say_name(k: usize) {
     say_line(
@@ -40,7 +46,7 @@ fn say_name(k: usize) {
         \x20 hdr_bit_depth_minus8 \n  disable_residual_flag \n  W/2 \n  H/2 \n\
         \x20 max_display_mastering_luminance \n  min_display_mastering_luminance \n, \n\
         \x20 num_pivots_minus2 \n  pred_pivot_value\n  pivot_value\n\
-        \x20 piece \n    mapping_idc \n    poly_order_minus1 \n  nlq_offset \n\
+        \x20 piece \n    mapping_idc \n    poly_order_minus1 \n    mmr_order_minus1 \n  nlq_offset \n\
         \x20 A \n  D0 \n  D1 \n  D2 \n  version \n",
         k,
     );
@@ -76,16 +82,29 @@ pub(crate) fn show_header(h: Header) {
     show(10, h.darkest as usize);
 }
 
+fn order_line(idc: u8) -> usize {
+    if idc == MMR {
+        MMR_ORDER_MINUS1
+    } else {
+        POLY_ORDER_MINUS1
+    }
+}
+
+fn show_row(idc: u8, order: u8, row: [i64; ROW], d: u8) {
+    let count = coefficients_of(idc, order);
+    let mut i: usize = 0;
+    while i < count {
+        show_coefficient(idc, i, row[i], d);
+        i += 1;
+    }
+}
+
 fn show_piece(p: usize, q: Piece, d: u8) {
     let row = q.row;
     show(PIECE, p);
     show_byte(MAPPING_IDC, q.idc);
-    show_byte(POLY_ORDER_MINUS1, q.order);
-    show_fixed(0, row[0], d);
-    show_fixed(1, row[1], d);
-    if q.order != 0 {
-        show_fixed(2, row[2], d);
-    }
+    show_byte(order_line(q.idc), q.order);
+    show_row(q.idc, q.order, row, d);
 }
 
 fn show_pieces(version: u16, n: u8, pieces: [Piece; PIECES], d: u8) {

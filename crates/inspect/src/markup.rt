@@ -6,45 +6,53 @@ use saying::say_number;
 pub(crate) const MOVE: usize = 0;
 
 // A panel's title: its component, from 1 to 3, and the number of pieces; the last code; the least and the greatest
-// mapped sample.
+// mapped sample; where a slice cuts through Cb, or through Cr.
+pub(crate) const LUMA: usize = 1;
+
+pub(crate) const CR: usize = 3;
+
 pub(crate) const LAST_CODE: usize = 4;
 
 pub(crate) const LEAST: usize = 5;
 
 pub(crate) const GREATEST: usize = 6;
 
-pub(crate) const TITLE_END: usize = 7;
+pub(crate) const CB_SLICE: usize = 7;
+
+pub(crate) const CR_SLICE: usize = 8;
+
+pub(crate) const TITLE_END: usize = 9;
 
 // The panel; a piece in one of two shades, its width there and back, and the line at its first pivot.
-pub(crate) const PANEL: usize = 8;
+pub(crate) const PANEL: usize = 10;
 
-pub(crate) const SHADE: usize = 9;
+pub(crate) const SHADE: usize = 11;
 
-pub(crate) const WIDTH: usize = 11;
+pub(crate) const WIDTH: usize = 13;
 
-pub(crate) const BACK: usize = 12;
+pub(crate) const BACK: usize = 14;
 
-pub(crate) const PIVOT: usize = 13;
+pub(crate) const PIVOT: usize = 15;
 
-pub(crate) const PIVOT_END: usize = 14;
+pub(crate) const PIVOT_END: usize = 16;
 
 // The line at the last pivot; the curve; its red parts, each so long; the numbers at the axes.
-pub(crate) const LAST_PIVOT: usize = 15;
+pub(crate) const LAST_PIVOT: usize = 17;
 
-pub(crate) const CURVE: usize = 16;
+pub(crate) const CURVE: usize = 18;
 
-pub(crate) const CUT: usize = 17;
+pub(crate) const CUT: usize = 19;
 
-pub(crate) const ALONG: usize = 18;
+pub(crate) const ALONG: usize = 20;
 
-pub(crate) const AXES: usize = 19;
+pub(crate) const AXES: usize = 21;
 
-pub(crate) const PANEL_END: usize = 20;
+pub(crate) const PANEL_END: usize = 22;
 
 // The whole picture's begin, and its end, which says what shades and lines mean.
-pub(crate) const START: usize = 21;
+pub(crate) const START: usize = 23;
 
-pub(crate) const END: usize = 22;
+pub(crate) const END: usize = 24;
 
 pub(crate) fn put(k: usize) {
     say_line(
@@ -52,7 +60,7 @@ pub(crate) fn put(k: usize) {
         <g transform=\"translate(70 58)\"><text class=\"t\" y=\"-28\">Y: pieces \n\
         <g transform=\"translate(70 356)\"><text class=\"t\" y=\"-28\">Cb: pieces \n\
         <g transform=\"translate(70 654)\"><text class=\"t\" y=\"-28\">Cr: pieces \n\
-        , codes 0 to \n, mapped samples \n to \n</text><text y=\"-9\">pivots\n\
+        , codes 0 to \n, mapped samples \n to \n, luma and Cr at \n, luma and Cb at \n</text><text y=\"-9\">pivots\n\
         </text><svg width=\"860\" height=\"215\" viewBox=\"0 0 262144 65536\"><path class=\"o\" d=\"M0 0h262144v65536H0\"/>\n\
         <path class=\"a\" d=\"M\n<path class=\"b\" d=\"M\n 0h\nv65536h-\n\"/><path class=\"p\" d=\"M\n 0v65536\"/>\n\
         <path class=\"p\" d=\"M\n\

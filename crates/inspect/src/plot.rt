@@ -1,8 +1,10 @@
-// A picture of the mappings: an SVG, one panel a component, of what every code comes to.
+// A picture of the mappings: an SVG, one panel a component, of what every code comes to. Where a component has an MMR
+// piece, its panel is a slice: luma and the other chroma sample are both at the middle code.
 //
 // A panel is 262,144 by 65,536 units, so that every number in it is whole: a code is 256 units wide, or 1,024 where
 // there are 256 codes, and a mapped sample v stands v units above the panel's lower edge.
 use crate::counts::between_pivots;
+use crate::counts::has_mmr;
 use crate::counts::pair;
 use crate::counts::pieces_of;
 use crate::counts::say_pivots;
@@ -10,12 +12,16 @@ use crate::counts::say_spaced;
 use crate::markup::ALONG;
 use crate::markup::AXES;
 use crate::markup::BACK;
+use crate::markup::CB_SLICE;
+use crate::markup::CR;
+use crate::markup::CR_SLICE;
 use crate::markup::CURVE;
 use crate::markup::CUT;
 use crate::markup::GREATEST;
 use crate::markup::LAST_CODE;
 use crate::markup::LAST_PIVOT;
 use crate::markup::LEAST;
+use crate::markup::LUMA;
 use crate::markup::MOVE;
 use crate::markup::PANEL;
 use crate::markup::PANEL_END;
@@ -28,8 +34,9 @@ use crate::markup::put;
 use crate::markup::put_line;
 use crate::markup::put_number;
 use mapping::mapped_table;
+use mmr::slice::slice_table;
 use plan::Component;
-use plan::Header;
+use plan::Plan;
 use plan::limits::PIVOTS;
 ghost use Prim.Native.Nat.{_≤_};
 
@@ -120,8 +127,18 @@ fn greater(a: usize, b: usize) -> usize {
     if a < b { b } else { a }
 }
 
-// The title of panel k, with the least and the greatest mapped sample.
-fn say_title(k: usize, pieces: usize, table: &[u16; 1024], bl: u8) {
+// Of panel k, which is a slice: where the other samples are.
+fn say_slice(k: usize, bl: u8) {
+    let middle = pair(last_code(bl)) / 2 + 1;
+    if k == CR {
+        put_number(CR_SLICE, middle);
+    } else {
+        put_number(CB_SLICE, middle);
+    }
+}
+
+// The least and the greatest mapped sample.
+fn say_ends(table: &[u16; 1024], bl: u8) {
     let last = last_code(bl);
     let mut low: usize = 65535;
     let mut high: usize = 0;
@@ -132,20 +149,39 @@ fn say_title(k: usize, pieces: usize, table: &[u16; 1024], bl: u8) {
         high = greater(high, v);
         code += 1;
     }
-    put_number(k, pieces);
-    put_number(LAST_CODE, pair(last));
     put_number(LEAST, low);
     put_number(GREATEST, high);
+}
+
+fn say_title(k: usize, pieces: usize, table: &[u16; 1024], bl: u8, sliced: bool) {
+    put_number(k, pieces);
+    put_number(LAST_CODE, pair(last_code(bl)));
+    say_ends(table, bl);
+    if sliced {
+        say_slice(k, bl);
+    }
     put(TITLE_END);
 }
 
+// What each code comes to. Of a chroma component without MMR pieces a slice is the mapping itself.
+fn table_of(k: usize, plan: Plan) -> [u16; 1024] {
+    if k == LUMA {
+        let h = plan.header;
+        let y = plan.y;
+        let mapped = mapped_table(h, y);
+        return mapped.table;
+    }
+    slice_table(plan, k == CR)
+}
+
 // The panel of a component, the first, second or third.
-pub(crate) fn plot_component(k: usize, version: u16, h: Header, c: Component) {
-    let bl = h.bl;
+pub(crate) fn plot_component(k: usize, version: u16, plan: Plan, c: Component) {
+    let bl = plan.header.bl;
     let n = c.n;
     let preds = c.preds;
-    let table = mapped_table(h, c);
-    say_title(k, pieces_of(version, n), &table, bl);
+    let pieces = c.pieces;
+    let table = table_of(k, plan);
+    say_title(k, pieces_of(version, n), &table, bl, has_mmr(pieces));
     say_pivots(n, preds, true);
     say_pieces(version, n, preds, bl);
     trace(CURVE, &table, bl);

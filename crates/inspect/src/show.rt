@@ -33,15 +33,15 @@ fn version_of(bytes: &[u8]) -> u16 {
     (trailer_number(bytes, 4) % 65536) as u16
 }
 
-// A component, which section k - 1 carries.
-fn show_section(k: usize, bytes: &[u8], before: usize, h: Header, c: Component, plotted: bool) {
+// A component of the plan, which section k - 1 carries.
+fn show_section(k: usize, bytes: &[u8], before: usize, plan: Plan, c: Component, plotted: bool) {
     let version = version_of(bytes);
     if plotted {
-        plot_component(k, version, h, c);
+        plot_component(k, version, plan, c);
         return;
     }
     say_part(k, bytes, before);
-    show_component(version, c, h.d);
+    show_component(version, c, plan.header.d);
 }
 
 fn show_end(bytes: &[u8], before: usize, plotted: bool) {
@@ -61,8 +61,8 @@ pub(crate) fn show_block(i: usize, bytes: &[u8], plan: Plan, plotted: bool) {
     let cr = plan.cr;
     let before = bytes_before(i, bytes);
     show_start(i, bytes, before, h, plotted);
-    show_section(1, bytes, before, h, y, plotted);
-    show_section(2, bytes, before, h, cb, plotted);
-    show_section(3, bytes, before, h, cr, plotted);
+    show_section(1, bytes, before, plan, y, plotted);
+    show_section(2, bytes, before, plan, cb, plotted);
+    show_section(3, bytes, before, plan, cr, plotted);
     show_end(bytes, before, plotted);
 }

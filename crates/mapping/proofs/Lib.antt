@@ -1,2 +1,3 @@
+pub mod Mappable
 pub mod Meaning
 pub mod Stretches

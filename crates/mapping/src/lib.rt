@@ -1,52 +1,54 @@
 // The mapping of base layer samples (5.4.2): a table of what every code comes to, since a picture has many more samples than there are codes.
-mod pieces; // the pivots, the piece of a sample, the clamp
-mod polynomial; // the polynomial of a piece, and its cut
+mod copies; // what the mapping reads of the pieces, copied
+mod limits; // what the numbers of a component must keep to, so that its mapping can be computed
+mod pieces; // the piece of a sample
+mod polynomial; // the polynomial of a piece
+mod table; // the table, by the rows of the pieces
 
-use pieces::clamp;
-use pieces::piece_of;
-use pieces::pivots_of;
+use copies::orders_of;
+use copies::rows_of;
+use limits::frame_maps;
+use limits::pieces_map;
 use plan::Component;
 use plan::Header;
-use polynomial::map_step;
-use rule_seven::is_usable;
+use table::table_by;
 ghost use mathlib.Core.Path.{_≡_};
-ghost use Rattle.mapping.specs.inner.Mapped.{mapped-table};
+ghost use Rattle.mapping.specs.inner.Mapped.{not-mapped, answer};
 
-// The mapped sample of each code; zeros where the component cannot be computed with. The row of a code's piece goes by value
-// to the mapping step. Codes from the last pivot on are a loop of their own: the search then asks nothing of that pivot.
-pub fn mapped_table(h: Header, c: Component) -> [u16; 1024]
-    ensures { λ r. ⌜ r ≡ mapped-table h c ⌝ }
+// The mapped sample of each code, and whether there is one: a component with an MMR piece, or one that cannot be computed
+// with, has none, and then the table has zeros.
+pub struct Mapped {
+    pub table: [u16; 1024],
+    pub maps: bool,
+}
+
+fn none() -> Mapped
+    ensures { λ r. ⌜ r ≡ not-mapped ⌝ }
 {
-    if !is_usable(h, c) {
-        return [0u16; 1024];
+    let zeros = [0u16; 1024];
+    Mapped {
+        table: zeros,
+        maps: false,
     }
-    let depth = (h.bl as u32) + 8;
-    let d = h.d as u32;
-    let n = c.n as usize;
+}
+
+// Of a piece its method, its order and the coefficients of a polynomial are copied, and nothing else of it is read.
+pub fn mapped_table(h: Header, c: Component) -> Mapped
+    ensures { λ r. ⌜ r ≡ answer h c ⌝ }
+{
     let preds = c.preds;
-    let pieces = c.pieces;
-    let pivots = pivots_of(preds);
-    let first = pivots[0];
-    let last = pivots[n + 1];
-    let codes = (1u64 << depth) as u16;
-    let below = clamp(0, codes, last);
-    let mut table = [0u16; 1024];
-    let mut s: u16 = 0;
-    while s < below {
-        let t = clamp(first, last, s);
-        let p = piece_of(&pivots, n, s);
-        let piece = pieces[p];
-        let row = piece.row;
-        table[s as usize] = map_step(depth, d, t, row);
-        s += 1;
+    if !frame_maps(h, c.n, preds) {
+        return none();
     }
-    // No pivot is greater than the codes that are left: they take piece n + 1, at the last pivot.
-    let above = pieces[n + 1];
-    let row = above.row;
-    while s < codes {
-        let t = clamp(first, last, s);
-        table[s as usize] = map_step(depth, d, t, row);
-        s += 1;
+    let n = c.n as usize;
+    let orders = orders_of(c);
+    let rows = rows_of(c);
+    if !pieces_map(&orders, &rows, n) {
+        return none();
     }
-    table
+    let table = table_by((h.bl as u32) + 8, h.d, n, preds, rows);
+    Mapped {
+        table: table,
+        maps: true,
+    }
 }

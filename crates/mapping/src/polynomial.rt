@@ -1,4 +1,5 @@
 // The polynomial of a piece at a clamped sample (5.4.2.3.2).
+use steps::cut_at;
 ghost use mathlib.Core.Path.{_≡_};
 ghost use Prim.Native.Nat.{_*_, _≤_, _^_};
 ghost use lib.IntN.{pos};
@@ -13,8 +14,8 @@ fn shifted(x: u64, shift: u32) -> i64
     (x << shift) as i64
 }
 
-// The sum over a row of three coefficients; one that the piece's order does not use is 0 and adds nothing.
-fn sum_of(depth: u32, s: u16, row: [i64; 3]) -> i64
+// The sum over the three coefficients of a row; one that the piece's order does not use is 0 and adds nothing.
+fn sum_of(depth: u32, s: u16, row: [i64; 4]) -> i64
     requires { ⌜ RowRanges depth s row ⌝ }
     ensures { λ r. ⌜ r ≡ poly-sum depth s (coef row) 2 ⌝ }
 {
@@ -24,23 +25,8 @@ fn sum_of(depth: u32, s: u16, row: [i64; 3]) -> i64
     row[0] * 1048576 + row[1] * linear + row[2] * square
 }
 
-// The sum is not below 0, is shifted, and is cut.
-fn cut_at(d: u32, v: i64) -> u16
-    requires { ⌜ d ≤ 32 ⌝ }
-    ensures { λ r. ⌜ r ≡ cut d v ⌝ }
-{
-    if v < 0 {
-        return 0;
-    }
-    let q = (v as u64) >> (4 + d);
-    if q > 65535 {
-        return 65535;
-    }
-    q as u16
-}
-
 // The mapping step: a clamped sample, and the row of its piece by value.
-pub(crate) fn map_step(depth: u32, d: u32, s: u16, row: [i64; 3]) -> u16
+pub(crate) fn map_step(depth: u32, d: u8, s: u16, row: [i64; 4]) -> u16
     requires { ⌜ d ≤ 32 ⌝ }
     requires { ⌜ RowRanges depth s row ⌝ }
     ensures { λ r. ⌜ r ≡ cut d (poly-sum depth s (coef row) 2) ⌝ }

@@ -19,7 +19,7 @@ abbrev four-rows-header : Header
 four-rows-header = record { profile = 1; level = 0; d = 15; bl = 2; el = 2; hdr = 4; disabled = 1; columns = 1; pairs = 2; brightest = 1000; darkest = 1 }
 
 abbrev linear-piece : Piece
-linear-piece = record { idc = 0; order = 0; row = pos 0 ∷ pos 32768 ∷ pos 0 ∷ [] }
+linear-piece = record { idc = 0; order = 0; row = pos 0 ∷ pos 32768 ∷ replicate 20 (pos 0) }
 
 abbrev linear : Component
 linear = record { n = 0; preds = 0 ∷ 1023 ∷ replicate 15 0; pieces = linear-piece ∷ linear-piece ∷ replicate 15 zero-piece; nlq = no-component .nlq }

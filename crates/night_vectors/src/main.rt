@@ -5,6 +5,7 @@ use jobs::Opened;
 use jobs::compose_job;
 use jobs::open_picture;
 use plan::Plan;
+use streams::BLOCK_ROOM;
 use streams::next_block;
 use streams::next_byte;
 use streams::next_long;
@@ -247,7 +248,7 @@ fn next_night() -> bool {
     if !len.there {
         return false;
     }
-    let mut bytes = [0u8; 1024];
+    let mut bytes = [0u8; BLOCK_ROOM];
     let reading = next_block(&mut bytes, len.value);
     let plan = reading.plan;
     let mut runs = [0u16; 1536];

@@ -1,5 +1,6 @@
 -- Bytes that are put one after the other, once or in a loop. Assumes nothing.
 use mathlib.Core.Path.{_≡_, refl, sym, ap, subst, _∙_}
+use mathlib.Core.Bool.{Bool}
 use mathlib.Core.List.{List, [], _++_}
 use mathlib.Core.Logic.{⊎-elim}
 use Prim.Native.Nat.{ℕ, zero, suc, _+_, _*_, _≤_, _<_}
@@ -11,8 +12,8 @@ use lib.ListN.{length, drop, length-append}
 use lib.Seq.{length-sets, sets-eq}
 use borrow.Author.Tests.{le-leb}
 use Rattle.pen.specs.Bytes.{bytes-of, number-bytes, in-turn}
-use Rattle.pen.specs.inner.Putting.{put-at, put-number, Inked}
-use Rattle.pen.proofs.Putting.{put-all, sets-on}
+use Rattle.pen.specs.inner.Putting.{put-at, integer-bytes, put-number, Inked}
+use Rattle.pen.proofs.Putting.{bytes-length, number-length, put-all, sets-on}
 
 pub nothing : {s : List ℕ} {at : ℕ} → Inked s at [] s at
 nothing {at = at} = record { is = refl; place = sym (add-zero at) }
@@ -37,17 +38,13 @@ module _ {s s' : List ℕ} {at : ℕ} where
   unfolding bytes-of
   two-inked v h e = inked (bytes-of 2 v) h e
 
-  pub number-inked : (d : ℕ) (z : ℤ) → d ≤ 32 → at + 5 ≤ length s → s' ≡ put-number s at d z → Inked s at (number-bytes d z) s' (at + 5)
-  unfolding number-bytes bytes-of
-  number-inked d z k h e = inked (number-bytes d z) h (rw (le-leb d 32 k) at e)
+  pub number-inked : (long : Bool) (d : ℕ) (z : ℤ) → let w = integer-bytes long in d ≤ 32 → at + (w + 4) ≤ length s → s' ≡ put-number s at long d z → Inked s at (number-bytes w d z) s' (at + (w + 4))
+  number-inked long d z k h e =
+      let l = number-length (integer-bytes long) d z in
+      rw (← l) (inked (number-bytes (integer-bytes long) d z) (rw l h) (rw (le-leb d 32 k) at e))
 
 pub two-length : (v : ℕ) → length (bytes-of 2 v) ≡ 2
-unfolding bytes-of
-two-length v = refl
-
-pub number-length : (d : ℕ) (z : ℤ) → length (number-bytes d z) ≡ 5
-unfolding number-bytes bytes-of
-number-length d z = refl
+two-length v = bytes-length 2 v
 
 -- what follows
 pub on : {s s' s'' : List ℕ} {at next last : ℕ} {a b : List ℕ} → Inked s at a s' next → Inked s' next b s'' last → Inked s at (a ++ b) s'' last

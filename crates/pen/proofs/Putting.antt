@@ -1,15 +1,29 @@
 -- Bytes put at a place: where they fit, and where they do not. Assumes nothing.
-use mathlib.Core.Path.{_≡_, refl}
+use mathlib.Core.Path.{_≡_, refl, sym, ap, _∙_}
+use mathlib.Core.Bool.{Bool}
 use mathlib.Core.List.{List, [], _∷_, _++_}
-use Prim.Native.Nat.{ℕ, suc, _+_, _/_, _%_, _≤_, _<_}
+use Prim.Native.Nat.{ℕ, zero, suc, _+_, _/_, _%_, _^_, _≤_, _<_}
 use native.Mathlib.Nat.{add-zero}
 use native.Mathlib.Omega.{arith}
 use lib.ListN.{length, set, length-append}
 use lib.Seq.{sets, length-sets}
 use lib.IntN.{ℤ}
 use borrow.Author.Tests.{lt-leb, le-leb}
-use Rattle.pen.specs.Bytes.{bytes-of, signed-byte, integer-part, fraction-part, number-bytes}
-use Rattle.pen.specs.inner.Putting.{put-at, put-number}
+use Rattle.pen.specs.Bytes.{bytes-of, signed-number, integer-part, fraction-part, number-bytes}
+use Rattle.pen.specs.inner.Putting.{put-at, integer-bytes, put-number}
+
+-- how many bytes there are
+pub bytes-length : (w v : ℕ) → length (bytes-of w v) ≡ w
+unfolding bytes-of
+bytes-length zero v = refl
+bytes-length (suc w) v = ap suc (bytes-length w (v % 256 ^ w))
+
+pub number-length : (w d : ℕ) (z : ℤ) → length (number-bytes w d z) ≡ w + 4
+unfolding number-bytes
+number-length w d z =
+    let a = bytes-of w (signed-number w (integer-part d z)) in
+    let b = bytes-of 4 (fraction-part d z) in
+    omega (arith, length-append a b, bytes-length w (signed-number w (integer-part d z)), bytes-length 4 (fraction-part d z))
 
 -- the bytes of a number, as they are written
 last : (v : ℕ) → v / 1 ≡ v
@@ -70,15 +84,20 @@ put-on s at a b h =
     rw (← put-all s at {l = a} refl first, ← put-all (sets s at a) (at + length a) {l = b} refl second, ← put-all s at {l = a ++ b} refl l) (sets-on a b s at)
 
 -- a number with a fraction
-module _ (s : List ℕ) (at d : ℕ) (z : ℤ) where
-  pub number-deep : 32 < d → s ≡ put-number s at d z
+module _ (s : List ℕ) (at : ℕ) (long : Bool) (d : ℕ) (z : ℤ) where
+  pub number-deep : 32 < d → s ≡ put-number s at long d z
   number-deep h = rw (lt-leb d 32 h)
 
-  pub number-none : d ≤ 32 → length s < at + 5 → s ≡ put-number s at d z
-  unfolding number-bytes bytes-of
-  number-none h k = rw (le-leb d 32 h) (put-none s at refl k)
+  module _ (h : d ≤ 32) where
+    pub number-none : {w : ℕ} → w ≡ integer-bytes long → length s < at + (w + 4) → s ≡ put-number s at long d z
+    number-none e k = rw (le-leb d 32 h) (put-none s at refl (rw (number-length (integer-bytes long) d z, ← e) k))
 
-  pub number-put : {x y : ℕ} → d ≤ 32 → at + 5 ≤ length s → x ≡ signed-byte (integer-part d z) → y ≡ fraction-part d z
-      → put-at (put-at s at (bytes-of 1 x)) (at + 1) (bytes-of 4 y) ≡ put-number s at d z
-  unfolding number-bytes bytes-of
-  number-put h k e f = rw (le-leb d 32 h, e, f) (put-on s at (bytes-of 1 (signed-byte (integer-part d z))) (bytes-of 4 (fraction-part d z)) (omega arith))
+    pub number-put : {w x y : ℕ} → w ≡ integer-bytes long → at + (w + 4) ≤ length s → x ≡ signed-number (integer-bytes long) (integer-part d z) → y ≡ fraction-part d z
+        → put-at (put-at s at (bytes-of (integer-bytes long) x)) (at + w) (bytes-of 4 y) ≡ put-number s at long d z
+    unfolding number-bytes
+    number-put {w} {x} {y} e k f g =
+        let l = bytes-length (integer-bytes long) x in
+        let m = bytes-length 4 y in
+        rw (le-leb d 32 h, ← f, ← g, e)
+        (ap (λ (n : ℕ). put-at (put-at s at (bytes-of (integer-bytes long) x)) (at + n) (bytes-of 4 y)) (sym l)
+        ∙ put-on s at (bytes-of (integer-bytes long) x) (bytes-of 4 y) (omega (arith, l, m, e, k)))

@@ -1,6 +1,7 @@
 // Big-endian numbers, written at a place of a lent slice. Where a number's bytes do not all fit, nothing is written.
 mod fixed; // numbers with a fraction
 
+pub use fixed::integer_bytes;
 pub use fixed::signed;
 pub use fixed::unsigned;
 ghost use mathlib.Core.Path.{_≡_};

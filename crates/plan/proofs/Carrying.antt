@@ -15,7 +15,7 @@ use Rattle.plan.specs.declared.Piece.{Piece}
 use Rattle.plan.specs.declared.Component.{Component}
 use Rattle.plan.specs.Rule7.{every, row-places, pieces-used, no-piece}
 use Rattle.plan.specs.Versions.{pieces-carried, same-number, same-piece, can-carry}
-use Rattle.plan.proofs.Truths.{both, every-at}
+use Rattle.plan.proofs.Truths.{both, every-at, every-true}
 
 -- ---- numbers and pieces that are the same
 pub number-itself : (z : ℤ) → same-number z z ≡ true
@@ -37,8 +37,8 @@ same-words a b f g = go (same-number a b) refl
     go false e = ne-eqb (ofZ w64 a) (ofZ w64 b) (λ p. false≢true (sym e ∙ ap (same-number a) (sym (sym (toZ-ofZ f) ∙ ap (toZ w64) p ∙ toZ-ofZ g)) ∙ number-itself a)) ∙ sym e
 
 pub piece-itself : (q : Piece) → same-piece q q ≡ true
-unfolding same-piece every
-piece-itself q = rw (eq-eqb (q .idc) (q .idc) refl, eq-eqb (q .order) (q .order) refl, number-itself (getD (q .row) 0 (pos 0)), number-itself (getD (q .row) 1 (pos 0)), number-itself (getD (q .row) 2 (pos 0)))
+unfolding same-piece
+piece-itself q = rw (eq-eqb (q .idc) (q .idc) refl, eq-eqb (q .order) (q .order) refl, every-true _ row-places (λ i h. number-itself (getD (q .row) i (pos 0))))
 
 pub is-piece : (a b : Piece) → length (a .row) ≡ row-places → length (b .row) ≡ row-places → same-piece a b ≡ true → a ≡ b
 unfolding same-piece

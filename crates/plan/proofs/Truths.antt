@@ -41,6 +41,17 @@ every-at test (suc k) e i h =
     let p = both (every k test) (test k) e in
     ⊎-elim (λ q. rw q (p .1)) (λ l. every-at test k (p .0) i l) (eq-or-lt-of-le (le-of-suc-le-suc h))
 
+-- and so it is made
+pub every-true : (test : ℕ → Bool) (k : ℕ) → ((i : ℕ) → i < k → test i ≡ true) → every k test ≡ true
+unfolding every
+every-true test zero f = refl
+every-true test (suc k) f = rw (every-true test k (λ i h. f i (omega arith)), f k (omega arith))
+
+pub every-cong : {test other : ℕ → Bool} (k : ℕ) → ((i : ℕ) → i < k → test i ≡ other i) → every k test ≡ every k other
+unfolding every
+every-cong zero f = refl
+every-cong (suc k) f = rw (every-cong k (λ i h. f i (omega arith)), f k (omega arith))
+
 -- a number in a place is below the limit, whether the place is used or not
 pub place-below : (used : Bool) (v top : ℕ) → 0 < top → cond used (ltb v top) (eqb v 0) ≡ true → v < top
 place-below true v top h e = ltb-true v top e

@@ -1,5 +1,5 @@
 -- The ranges of the house rules' tables, one definition a field, for the reader's rules 4 and 5 and for rule 7 alike.
-use mathlib.Core.Bool.{Bool, true, _&&_, _||_}
+use mathlib.Core.Bool.{Bool, true, cond, _&&_, _||_}
 use mathlib.Core.List.{List, [], _∷_}
 use Prim.Native.Nat.{ℕ, _+_, _*_, _^_}
 use lib.Dec.{leb, ltb, eqb}
@@ -63,15 +63,12 @@ size-fits h = all (size-tests h)
 abbrev pub header-fits : Header → Bool
 header-fits h = format-fits h && size-fits h
 
--- a section's fields: num_pivots_minus2, a pred_pivot_value, poly_order_minus1, nlq_offset, a fraction
+-- a section's fields: num_pivots_minus2, a pred_pivot_value, nlq_offset, a fraction
 abbrev pub count-fits : ℕ → Bool
 count-fits n = leb n most-n
 
 abbrev pub pivot-fits : Header → ℕ → Bool
 pivot-fits h v = ltb v (2 ^ bl-depth h)
-
-abbrev pub order-fits : ℕ → Bool
-order-fits v = leb v 1
 
 abbrev pub offset-fits : Header → ℕ → Bool
 offset-fits h v = ltb v (2 ^ el-depth h)
@@ -79,9 +76,21 @@ offset-fits h v = ltb v (2 ^ el-depth h)
 abbrev pub fraction-fits : Header → ℕ → Bool
 fraction-fits h v = ltb v (2 ^ h .d)
 
--- an integer part from -64 to 63 and a fraction below 2 ^ d make a coefficient from -64 x 2 ^ d up to 64 x 2 ^ d
-abbrev pub coefficient-fits : Header → ℤ → Bool
-coefficient-fits h z = leZ (negℤ (pos (64 * 2 ^ h .d))) z && ltZ z (pos (64 * 2 ^ h .d))
+-- mapping_idc of component k: 0, the polynomial, and for Cb and Cr also 1, MMR
+abbrev pub idc-fits : ℕ → ℕ → Bool
+idc-fits k v = leb v (cond (eqb k 0) 0 1)
+
+-- by mapping_idc: poly_order_minus1 0 or 1, mmr_order_minus1 0 to 2
+abbrev pub order-fits : ℕ → ℕ → Bool
+order-fits idc v = leb v (cond (eqb idc 1) 2 1)
+
+-- by mapping_idc: a coefficient's integer part is -64 to 63, or -65,536 to 65,535
+abbrev pub integer-limit : ℕ → ℕ
+integer-limit idc = cond (eqb idc 1) 65536 64
+
+-- an integer part from -m to m - 1 and a fraction below 2 ^ d make a coefficient from -m x 2 ^ d up to m x 2 ^ d
+abbrev pub coefficient-fits : Header → ℕ → ℤ → Bool
+coefficient-fits h idc z = leZ (negℤ (pos (integer-limit idc * 2 ^ h .d))) z && ltZ z (pos (integer-limit idc * 2 ^ h .d))
 
 -- an integer part 0 or 1 and a fraction below 2 ^ d make a number below 2 x 2 ^ d
 abbrev pub unsigned-fits : Header → ℕ → Bool

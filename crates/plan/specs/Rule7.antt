@@ -1,7 +1,7 @@
--- Rule 7: a plan handed in keeps every range, has no mapping_idc 1, and has 0 in every unused place.
+-- Rule 7: a plan handed in keeps every range, and has 0 in every unused place.
 use mathlib.Core.Bool.{Bool, true, cond, _&&_}
 use mathlib.Core.List.{List, [], _∷_}
-use Prim.Native.Nat.{ℕ, zero, suc, _+_}
+use Prim.Native.Nat.{ℕ, zero, suc, _+_, _*_}
 use lib.Dec.{ltb, eqb}
 use lib.IntN.{ℤ, pos, natAbs}
 use lib.ListN.{getD, replicate}
@@ -10,7 +10,7 @@ use Rattle.plan.specs.declared.Piece.{Piece}
 use Rattle.plan.specs.declared.Nlq.{Nlq}
 use Rattle.plan.specs.declared.Component.{Component}
 use Rattle.plan.specs.declared.Plan.{Plan}
-use Rattle.plan.specs.Ranges.{all, header-fits, count-fits, pivot-fits, order-fits, offset-fits, coefficient-fits, unsigned-fits}
+use Rattle.plan.specs.Ranges.{all, header-fits, count-fits, pivot-fits, idc-fits, order-fits, offset-fits, coefficient-fits, unsigned-fits}
 
 -- the test holds of each of 0 .. k - 1
 unfoldable pub every : ℕ → (ℕ → Bool) → Bool
@@ -25,17 +25,18 @@ abbrev pub piece-places : ℕ
 piece-places = 17
 
 abbrev pub row-places : ℕ
-row-places = 3
+row-places = 22
 
--- of num_pivots_minus2 n + 2 pivots and n + 2 pieces are used, of poly_order_minus1 order + 2 coefficients
+-- of num_pivots_minus2 n + 2 pivots and n + 2 pieces are used; of poly_order_minus1 order + 2 coefficients, of mmr_order_minus1 the
+-- constant and 7 for each order
 abbrev pub pivots-used : ℕ → ℕ
 pivots-used n = n + 2
 
 abbrev pub pieces-used : ℕ → ℕ
 pieces-used n = n + 2
 
-abbrev pub coefficients-used : ℕ → ℕ
-coefficients-used order = order + 2
+abbrev pub coefficients-used : ℕ → ℕ → ℕ
+coefficients-used idc order = cond (eqb idc 1) (7 * (order + 1) + 1) (order + 2)
 
 -- what stands past the places of an array
 abbrev pub no-piece : Piece
@@ -44,29 +45,31 @@ no-piece = record { idc = 0; order = 0; row = [] }
 abbrev pub is-zero : ℤ → Bool
 is-zero z = eqb (natAbs z) 0
 
--- a row: the first k places keep the range, the others are 0
-unfoldable pub row-fits : Header → ℕ → List ℤ → Bool
-row-fits h k row =
+-- a row: the first k places keep the range of a mapping_idc, the others are 0
+unfoldable pub row-fits : Header → ℕ → ℕ → List ℤ → Bool
+row-fits h idc k row =
     every row-places
-    (λ j. cond (ltb j k) (coefficient-fits h (getD row j (pos 0))) (is-zero (getD row j (pos 0))))
+    (λ j. cond (ltb j k) (coefficient-fits h idc (getD row j (pos 0))) (is-zero (getD row j (pos 0))))
 
--- a piece that is used
-unfoldable pub piece-fits : Header → Piece → Bool
-piece-fits h q = eqb (q .idc) 0 && (order-fits (q .order) && row-fits h (coefficients-used (q .order)) (q .row))
+-- a piece of component k that is used
+unfoldable pub piece-fits : ℕ → Header → Piece → Bool
+piece-fits k h q =
+    idc-fits k (q .idc)
+    && (order-fits (q .idc) (q .order) && row-fits h (q .idc) (coefficients-used (q .idc) (q .order)) (q .row))
 
 -- a place for a piece that is not used: all of it is 0
 unfoldable pub piece-empty : Header → Piece → Bool
-piece-empty h q = eqb (q .idc) 0 && (eqb (q .order) 0 && row-fits h 0 (q .row))
+piece-empty h q = eqb (q .idc) 0 && (eqb (q .order) 0 && row-fits h 0 0 (q .row))
 
 unfoldable pub pivots-fit : Header → Component → Bool
 pivots-fit h c =
     every pivot-places
     (λ i. cond (ltb i (pivots-used (c .n))) (pivot-fits h (getD (c .preds) i 0)) (eqb (getD (c .preds) i 0) 0))
 
-unfoldable pub pieces-fit : Header → Component → Bool
-pieces-fit h c =
+unfoldable pub pieces-fit : ℕ → Header → Component → Bool
+pieces-fit k h c =
     every piece-places
-    (λ p. cond (ltb p (pieces-used (c .n))) (piece-fits h (getD (c .pieces) p no-piece)) (piece-empty h (getD (c .pieces) p no-piece)))
+    (λ p. cond (ltb p (pieces-used (c .n))) (piece-fits k h (getD (c .pieces) p no-piece)) (piece-empty h (getD (c .pieces) p no-piece)))
 
 abbrev pub nlq-tests : Header → Nlq → List Bool
 nlq-tests h q = offset-fits h (q .offset) ∷ unsigned-fits h (q .maximum) ∷ unsigned-fits h (q .slope) ∷ unsigned-fits h (q .threshold) ∷ []
@@ -74,18 +77,19 @@ nlq-tests h q = offset-fits h (q .offset) ∷ unsigned-fits h (q .maximum) ∷ u
 unfoldable pub nlq-fits : Header → Nlq → Bool
 nlq-fits h q = all (nlq-tests h q)
 
-unfoldable pub component-fits : Header → Component → Bool
-component-fits h c = count-fits (c .n) && (pivots-fit h c && (pieces-fit h c && nlq-fits h (c .nlq)))
+-- component k: 0 is luma, 1 Cb and 2 Cr
+unfoldable pub component-fits : ℕ → Header → Component → Bool
+component-fits k h c = count-fits (c .n) && (pivots-fit h c && (pieces-fit k h c && nlq-fits h (c .nlq)))
 
--- a header and one of its components that can be computed with
-abbrev pub usable : Header → Component → Bool
-usable h c = header-fits h && component-fits h c
+-- a header and its component k that can be computed with
+abbrev pub usable : ℕ → Header → Component → Bool
+usable k h c = header-fits h && component-fits k h c
 
 -- the plan passes rule 7
 unfoldable pub fitting : Plan → Bool
 fitting p =
     header-fits (p .header)
-    && (component-fits (p .header) (p .y) && (component-fits (p .header) (p .cb) && component-fits (p .header) (p .cr)))
+    && (component-fits 0 (p .header) (p .y) && (component-fits 1 (p .header) (p .cb) && component-fits 2 (p .header) (p .cr)))
 
 -- what stands in a place for a piece that is not used, and the plan of zeros, which stands for none: rule 7 refuses it
 abbrev pub zero-piece : Piece

@@ -1,5 +1,6 @@
 // A plan: every field of a composing block, as a value that travels with each call.
 pub mod limits; // the largest sizes and counts, and the places of a plan's arrays
+pub mod methods; // what goes by mapping_idc
 pub mod ranges; // the ranges of the header's fields
 pub mod versions; // the versions of a block, and how many pieces each carries
 
@@ -26,7 +27,8 @@ pub struct Header {
     pub darkest: u32, // min_display_mastering_luminance, in units of 0.0001 cd/m2
 }
 
-// One piece of a component's mapping (5.3.3): its method, poly_order_minus1, and its row of coefficients fp_poly_coef.
+// One piece of a component's mapping (5.3.3): mapping_idc, its order less 1, and its row of coefficients. A polynomial's are
+// fp_poly_coef; of MMR place 0 is fp_mmr_constant, and place 7 (i - 1) + j + 1 is fp_mmr_coef[i][j].
 #[repr(C)]
 pub struct Piece {
     pub idc: u8,

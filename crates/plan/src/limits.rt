@@ -14,4 +14,4 @@ pub const PIVOTS: usize = 17;
 
 pub const PIECES: usize = 17;
 
-pub const ROW: usize = 3;
+pub const ROW: usize = 22;

@@ -89,7 +89,7 @@ fn field_at(text: &[u8], at: usize, s: Step) -> Field {
     let from = wrapping_add_usize(at, n);
     let x = number_at(text, from, s.kind);
     Field {
-        value: raw(x),
+        value: raw(x, s.kind),
         from: from,
         to: x.end,
         reason: fault_of(text, x, s),

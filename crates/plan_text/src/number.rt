@@ -2,7 +2,7 @@
 use crate::putting::byte_at;
 use crate::step::Step;
 use crate::step::count_of;
-use crate::table::POLY_COEF_INT;
+use crate::table::is_signed;
 use crate::table::width_of;
 use std::num::wrapping_add_usize;
 use std::num::wrapping_sub_usize;
@@ -55,7 +55,7 @@ fn appended(value: usize, c: u8) -> usize {
 
 // The digits at a place of the text, after a minus where the field may have one.
 pub(crate) fn number_at(text: &[u8], at: usize, kind: usize) -> Number {
-    let negative = (kind == POLY_COEF_INT) & (byte_at(text, at) == b'-');
+    let negative = is_signed(kind) & (byte_at(text, at) == b'-');
     let digits = if negative {
         wrapping_add_usize(at, 1)
     } else {
@@ -79,22 +79,44 @@ pub(crate) fn number_at(text: &[u8], at: usize, kind: usize) -> Number {
     }
 }
 
-// Whether the field's bytes hold the number: one, two or four of them, or one that is signed.
-fn fits(x: Number, kind: usize) -> bool {
+// How many numbers the field's bytes can hold: one, two or four of them.
+fn count_held(kind: usize) -> usize {
     let width = width_of(kind);
-    if kind == POLY_COEF_INT {
-        return if x.negative {
-            x.value <= 128
-        } else {
-            x.value <= 127
-        };
-    }
     if width == 1 {
-        x.value <= 255
+        256
     } else if width == 2 {
-        x.value <= 65535
+        65536
     } else {
-        x.value <= 4294967295
+        4294967296
+    }
+}
+
+// What the field's bytes hold for the least number: 0, or half of all, which is also how far it is below 0.
+pub(crate) fn least_held(kind: usize) -> usize {
+    if is_signed(kind) {
+        count_held(kind) / 2
+    } else {
+        0
+    }
+}
+
+// The greatest number that the field's bytes hold.
+pub(crate) fn greatest_of(kind: usize) -> usize {
+    let count = count_held(kind);
+    wrapping_sub_usize(if is_signed(kind) { count / 2 } else { count }, 1)
+}
+
+// What the field's bytes hold for a number that is v below 0, and how far below 0 the number is for which they hold v.
+pub(crate) fn complement(v: usize, kind: usize) -> usize {
+    wrapping_sub_usize(count_held(kind), v)
+}
+
+// Whether the field's bytes hold the number.
+fn fits(x: Number, kind: usize) -> bool {
+    if x.negative {
+        x.value <= least_held(kind)
+    } else {
+        x.value <= greatest_of(kind)
     }
 }
 
@@ -118,9 +140,9 @@ pub(crate) fn fault_of(text: &[u8], x: Number, s: Step) -> usize {
 }
 
 // What the field's bytes hold for the number, which fits.
-pub(crate) fn raw(x: Number) -> usize {
+pub(crate) fn raw(x: Number, kind: usize) -> usize {
     if x.negative {
-        wrapping_sub_usize(256, x.value)
+        complement(x.value, kind)
     } else {
         x.value
     }

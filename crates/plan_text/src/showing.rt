@@ -1,4 +1,6 @@
 // The text of a block.
+use crate::number::complement;
+use crate::number::greatest_of;
 use crate::putting::put;
 use crate::putting::put_decimal;
 use crate::putting::put_if;
@@ -6,22 +8,13 @@ use crate::step::next;
 use crate::step::start;
 use crate::step::value_of;
 use crate::table::END;
-use crate::table::POLY_COEF_INT;
 use crate::table::put_lead;
-use std::num::wrapping_sub_usize;
 
-fn put_value(text: &mut [u8], at: usize, kind: usize, v: usize) -> usize {
-    let negative = (kind == POLY_COEF_INT) & (127 < v);
+// Puts the number that the field's bytes hold as v.
+pub(crate) fn put_value(text: &mut [u8], at: usize, kind: usize, v: usize) -> usize {
+    let negative = greatest_of(kind) < v;
     let signed = put_if(negative, text, at, b'-');
-    put_decimal(
-        text,
-        signed,
-        if negative {
-            wrapping_sub_usize(256, v)
-        } else {
-            v
-        },
-    )
+    put_decimal(text, signed, if negative { complement(v, kind) } else { v })
 }
 
 // Puts the text of a block that reading accepts, whose bytes are the whole of `block`, and answers its length; 0 where

@@ -1,7 +1,13 @@
 // The walk over the fields: which field has its turn, and which comes next once its number is known.
 use crate::table::COMPONENT;
 use crate::table::CUT;
+use crate::table::MAPPING_IDC;
+use crate::table::MMR_COEF;
+use crate::table::MMR_COEF_INT;
+use crate::table::MMR_CONSTANT;
+use crate::table::MMR_ORDER_MINUS1;
 use crate::table::MORE_PIVOTS;
+use crate::table::NLQ_OFFSET;
 use crate::table::NUM_PIVOTS_MINUS2;
 use crate::table::PIECE;
 use crate::table::POLY_COEF;
@@ -15,7 +21,10 @@ use crate::table::width_of;
 use fields::numbers::four;
 use fields::numbers::two;
 use plan::limits::MOST_N;
-use plan::limits::ROW;
+use plan::methods::MMR;
+use plan::methods::coefficients_used;
+use plan::methods::most_idc;
+use plan::methods::most_order;
 use plan::versions::is_known;
 use plan::versions::pieces_carried;
 use std::num::wrapping_add_usize;
@@ -54,9 +63,8 @@ pub(crate) fn begun(s: Step) -> Step {
     t
 }
 
-// The version and the counts: after one that no block may have the walk ends, as nobody can say what follows it. n + 1
-// pivots come after the first, and poly_order_minus1 + 1 coefficients; a row of a plan has a place for each that the
-// largest order uses.
+// The version, the counts and the method: after one that no block may have the walk ends, as nobody can say what follows
+// it. n + 1 pivots come after the first, and after the first coefficient all others that the method and the order have.
 //
 // After such a version a header of 24 bytes stands for all that follows, and one byte for each section.
 fn versioned(s: Step, version: usize) -> Step {
@@ -83,12 +91,21 @@ fn counted(s: Step, n: usize) -> Step {
     t
 }
 
-fn ordered(s: Step, order: usize) -> Step {
+fn mapped(s: Step, idc: usize) -> Step {
     let mut t = s;
-    if ROW - 2 < order {
+    if (most_idc(s.component) as usize) < idc {
         t.kind = CUT;
-    } else {
-        t.left = order + 1;
+    } else if idc == (MMR as usize) {
+        t.kind = MMR_ORDER_MINUS1;
+    }
+    t
+}
+
+fn ordered(s: Step, idc: u8, order: usize) -> Step {
+    let mut t = s;
+    t.left = wrapping_sub_usize(coefficients_used(idc, (order % 256) as u8), 1);
+    if (most_order(idc) as usize) < order {
+        t.kind = CUT;
     }
     t
 }
@@ -102,14 +119,17 @@ fn after_pivot(s: Step) -> Step {
     t
 }
 
-fn after_coefficient(s: Step) -> Step {
+// After a coefficient comes the next one, which begins with this field, or the next piece, or what follows the pieces.
+fn after_coefficient(s: Step, coefficient: usize) -> Step {
     let mut t = s;
     if 0 < s.left {
         t.left = s.left - 1;
-        t.kind = POLY_COEF_INT;
+        t.kind = coefficient;
     } else if wrapping_add_usize(s.piece, 1) < s.pieces {
         t.piece = wrapping_add_usize(s.piece, 1);
         t.kind = PIECE;
+    } else {
+        t.kind = NLQ_OFFSET;
     }
     t
 }
@@ -130,8 +150,11 @@ fn taken(s: Step, kind: usize, value: usize) -> Step {
         COMPONENT => begun(s),
         NUM_PIVOTS_MINUS2 => counted(s, value),
         MORE_PIVOTS => after_pivot(s),
-        POLY_ORDER_MINUS1 => ordered(s, value),
-        POLY_COEF => after_coefficient(s),
+        MAPPING_IDC => mapped(s, value),
+        POLY_ORDER_MINUS1 => ordered(s, 0, value),
+        POLY_COEF => after_coefficient(s, POLY_COEF_INT),
+        MMR_ORDER_MINUS1 => ordered(s, MMR, value),
+        MMR_CONSTANT | MMR_COEF => after_coefficient(s, MMR_COEF_INT),
         THRESHOLD => after_section(s),
         _ => s,
     }

@@ -2,6 +2,7 @@
 // places changed, and one line of answer for each, 0 or 7. A stream that is malformed ends there.
 use plan::Plan;
 use rule_seven::passes;
+use streams::BLOCK_ROOM;
 use streams::next_block;
 use streams::next_number;
 use streams::next_plan;
@@ -29,7 +30,7 @@ fn next_group() -> bool {
     if !len.there {
         return false;
     }
-    let mut bytes = [0u8; 1024];
+    let mut bytes = [0u8; BLOCK_ROOM];
     let reading = next_block(&mut bytes, len.value);
     let plan = reading.plan;
     run_cases(plan);

@@ -1,13 +1,15 @@
 // Row pairs composed plane by plane: a plane's tables are made once a call, and its row pairs go by them. Nothing is asked of the
 // plan or the samples: what the tables hold for a plan that passes rule 7 is for `compose` to say.
 use mapping::mapped_table;
+use mmr::compose_chroma;
 use picture::Plane;
 use picture::planes_of;
-use plan::Component;
 use plan::Header;
+use plan::Nlq;
 use plan::Plan;
 use residual::cut_numbers;
 use residual::finished_table;
+use residual::no_residual;
 use residual::residual_table;
 use rows::Rows;
 use rows::add_up_rows;
@@ -15,22 +17,21 @@ use rows::look_up_rows;
 use rules::extent_of;
 use sums::Cut;
 ghost use mathlib.Core.Path.{_≡_};
-ghost use Rattle.mapping.specs.inner.Mapped.{mapped-table};
-ghost use Rattle.residual.specs.inner.Tables.{residual-table};
-ghost use Rattle.rows.specs.inner.Rows.{added-up-rows};
-ghost use Rattle.planes.specs.inner.ByTables.{plain-plane, enhanced-plane, three};
+ghost use Rattle.residual.specs.inner.Tables.{residual-table, finished-table};
+ghost use Rattle.rows.specs.inner.Rows.{looked-up-rows, added-up-rows};
+ghost use Rattle.planes.specs.inner.ByTables.{plain-chroma, enhanced-chroma, plain-picture, enhanced-picture};
 
-fn plain_plane(h: Header, c: Component, p: Plane, r: Rows, base: &[u16], output: &mut [u16])
-    ensures { λ _. ⌜ now (output .exit) ≡ plain-plane h r (now (base .entry)) c p (now (output .entry)) ⌝ }
+fn plain_plane(h: Header, mapped: &[u16; 1024], p: Plane, r: Rows, base: &[u16], output: &mut [u16])
+    ensures { λ _. ⌜ now (output .exit) ≡ looked-up-rows (finished-table h (now (mapped .entry))) p r (now (base .entry)) (now (output .entry)) ⌝ }
 {
-    let mapped = mapped_table(h, c);
-    let finished = finished_table(h, &mapped);
+    let finished = finished_table(h, mapped);
     look_up_rows(&finished, p, r, base, output);
 }
 
 fn enhanced_plane(
     h: Header,
-    c: Component,
+    mapped: &[u16; 1024],
+    q: Nlq,
     cut: Cut,
     p: Plane,
     r: Rows,
@@ -38,39 +39,128 @@ fn enhanced_plane(
     enhancement: &[u16],
     output: &mut [u16],
 )
-    ensures { λ _. ⌜ now (output .exit) ≡ added-up-rows (mapped-table h c) (residual-table h (c .nlq)) cut p r (now (base .entry)) (now (enhancement .entry)) (now (output .entry)) ⌝ }
+    ensures { λ _. ⌜ now (output .exit) ≡ added-up-rows (now (mapped .entry)) (residual-table h q) cut p r (now (base .entry)) (now (enhancement .entry)) (now (output .entry)) ⌝ }
 {
-    let mapped = mapped_table(h, c);
-    let q = c.nlq;
     let raised = residual_table(h, q);
-    add_up_rows(&mapped, &raised, cut, p, r, base, enhancement, output);
+    add_up_rows(mapped, &raised, cut, p, r, base, enhancement, output);
 }
 
-// Without residual.
+// Chroma by MMR. The enhancement is not there: the base stands for it, since every code has no residual.
+fn plain_chroma(plan: Plan, r: Rows, base: &[u16], output: &mut [u16])
+    ensures { λ _. ⌜ now (output .exit) ≡ plain-chroma plan r (now (base .entry)) (now (output .entry)) ⌝ }
+{
+    let none = no_residual(plan.header);
+    let cut = cut_numbers(plan.header);
+    compose_chroma(plan, r.first, r.last, &none, &none, cut, base, base, output);
+}
+
+fn enhanced_chroma(
+    plan: Plan,
+    cut: Cut,
+    r: Rows,
+    base: &[u16],
+    enhancement: &[u16],
+    output: &mut [u16],
+)
+    ensures { λ _. ⌜ now (output .exit) ≡ enhanced-chroma plan cut r (now (base .entry)) (now (enhancement .entry)) (now (output .entry)) ⌝ }
+{
+    let blue = residual_table(plan.header, plan.cb.nlq);
+    let red = residual_table(plan.header, plan.cr.nlq);
+    compose_chroma(
+        plan,
+        r.first,
+        r.last,
+        &blue,
+        &red,
+        cut,
+        base,
+        enhancement,
+        output,
+    );
+}
+
+// Without residual. Whatever is handed the plan or a component comes before anything is written: they are large, and what
+// is read of them after a store to the output is copied before it, as the compiler does not know that they differ.
 pub fn plain_planes(plan: Plan, r: Rows, base: &[u16], output: &mut [u16])
-    ensures { λ _. ⌜ now (output .exit) ≡ three plan (plain-plane (plan .header) r (now (base .entry))) (now (output .entry)) ⌝ }
+    ensures { λ _. ⌜ now (output .exit) ≡ plain-picture plan r (now (base .entry)) (now (output .entry)) ⌝ }
 {
     let h = plan.header;
     let p = planes_of(extent_of(h));
     let y = plan.y;
+    let luma = mapped_table(h, y);
     let cb = plan.cb;
+    let blue = mapped_table(h, cb);
     let cr = plan.cr;
-    plain_plane(h, y, p.y, r, base, output);
-    plain_plane(h, cb, p.cb, r, base, output);
-    plain_plane(h, cr, p.cr, r, base, output);
+    let red = mapped_table(h, cr);
+    if blue.maps & red.maps {
+        plain_plane(h, &luma.table, p.y, r, base, output);
+        plain_plane(h, &blue.table, p.cb, r, base, output);
+        plain_plane(h, &red.table, p.cr, r, base, output);
+        return;
+    }
+    plain_chroma(plan, r, base, output);
+    plain_plane(h, &luma.table, p.y, r, base, output);
 }
 
 // With residual. The numbers of the cut serve three planes.
 pub fn enhanced_planes(plan: Plan, r: Rows, base: &[u16], enhancement: &[u16], output: &mut [u16])
-    ensures { λ _. ⌜ now (output .exit) ≡ three plan (enhanced-plane (plan .header) r (now (base .entry)) (now (enhancement .entry))) (now (output .entry)) ⌝ }
+    ensures { λ _. ⌜ now (output .exit) ≡ enhanced-picture plan r (now (base .entry)) (now (enhancement .entry)) (now (output .entry)) ⌝ }
 {
     let h = plan.header;
     let p = planes_of(extent_of(h));
-    let y = plan.y;
-    let cb = plan.cb;
-    let cr = plan.cr;
     let cut = cut_numbers(h);
-    enhanced_plane(h, y, cut, p.y, r, base, enhancement, output);
-    enhanced_plane(h, cb, cut, p.cb, r, base, enhancement, output);
-    enhanced_plane(h, cr, cut, p.cr, r, base, enhancement, output);
+    let y = plan.y;
+    let luma = mapped_table(h, y);
+    let cb = plan.cb;
+    let blue = mapped_table(h, cb);
+    let cr = plan.cr;
+    let red = mapped_table(h, cr);
+    if blue.maps & red.maps {
+        enhanced_plane(
+            h,
+            &luma.table,
+            y.nlq,
+            cut,
+            p.y,
+            r,
+            base,
+            enhancement,
+            output,
+        );
+        enhanced_plane(
+            h,
+            &blue.table,
+            cb.nlq,
+            cut,
+            p.cb,
+            r,
+            base,
+            enhancement,
+            output,
+        );
+        enhanced_plane(
+            h,
+            &red.table,
+            cr.nlq,
+            cut,
+            p.cr,
+            r,
+            base,
+            enhancement,
+            output,
+        );
+        return;
+    }
+    enhanced_chroma(plan, cut, r, base, enhancement, output);
+    enhanced_plane(
+        h,
+        &luma.table,
+        y.nlq,
+        cut,
+        p.y,
+        r,
+        base,
+        enhancement,
+        output,
+    );
 }

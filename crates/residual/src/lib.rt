@@ -13,7 +13,7 @@ use rounding::raise;
 use rule_seven::quantizes;
 use sums::Cut;
 ghost use mathlib.Core.Path.{_≡_};
-ghost use Rattle.residual.specs.inner.Tables.{residual-table, finished-table, cut-numbers};
+ghost use Rattle.residual.specs.inner.Tables.{residual-table, no-residual, finished-table, cut-numbers};
 
 // The raised residual of each code.
 pub fn residual_table(h: Header, q: Nlq) -> [u32; 1024]
@@ -33,6 +33,17 @@ pub fn residual_table(h: Header, q: Nlq) -> [u32; 1024]
         e += 1;
     }
     table
+}
+
+// The raised residual of no residual, for every code: where samples are added up whose enhancement says nothing.
+pub fn no_residual(h: Header) -> [u32; 1024]
+    ensures { λ r. ⌜ r ≡ no-residual h ⌝ }
+{
+    if !header_fits(h) {
+        return [0u32; 1024];
+    }
+    let none = raise((h.hdr as u32) + 8, 0);
+    [none; 1024]
 }
 
 // The HDR sample of each mapped sample, where there is no residual.

@@ -53,7 +53,7 @@ module _ (p : Plan) (version : ℕ) (writes : writable p version ≡ true) (size
   facts = header-kept (p .header) head-fits
 
   -- a section as it is written is read
-  section-back : (k : ℕ) (c : Component) → Carried p version c → Arrays c → section version (p .header) k (section-bytes version (p .header .d) c) ≡ got c []
+  section-back : (k : ℕ) (c : Component) → Carried p version k c → Arrays c → section version (p .header) k (section-bytes version (p .header .d) c) ≡ got c []
   section-back k c e a =
       ap (section version (p .header) k) (sym (no-more (section-bytes version (p .header .d) c)))
       ∙ section-mirrors (p .header) facts k version .back c (record { fits = e .fits; arrays = a; carries = e .carries }) [] refl
@@ -77,7 +77,7 @@ module _ (p : Plan) (version : ℕ) (writes : writable p version ≡ true) (size
   x = record { a = 24 + (l0 + (l1 + l2)); d0 = l0 + (l1 + l2); d1 = l1 + l2; d2 = l2; version = version; last = 0 }
 
   some : (0 < l0) × ((0 < l1) × (0 < l2))
-  some = (omega (arith, some-bytes p version (y-carried p version writes)), (omega (arith, some-bytes p version (cb-carried p version writes)), omega (arith, some-bytes p version (cr-carried p version writes))))
+  some = (omega (arith, some-bytes p version 0 (y-carried p version writes)), (omega (arith, some-bytes p version 1 (cb-carried p version writes)), omega (arith, some-bytes p version 2 (cr-carried p version writes))))
 
   size : length bytes ≡ 24 + l0 + l1 + l2 + 12
   size = block-size p version

@@ -10,6 +10,7 @@ use lib.Seq.{getD-take, take-suc}
 use borrow.Author.Tests.{eqb-true, eqb-false}
 use Rattle.plan.specs.declared.Piece.{Piece}
 use Rattle.plan.specs.declared.Component.{Component}
+use Rattle.plan.specs.Ranges.{most-n}
 use Rattle.plan.specs.Rule7.{pieces-used, piece-places, no-piece, zero-piece}
 use Rattle.plan.specs.Versions.{known-version, pieces-carried, pieces-read, can-carry}
 use Rattle.plan.specs.inner.Facts.{Arrays}
@@ -41,7 +42,7 @@ module _ (version : ℕ) (c : Component) where
           ne = eqb-false version 1
 
 -- what is read of the pieces that were carried, and what was carried of those that are read
-module _ (version n : ℕ) (few : n ≤ 15) where
+module _ (version n : ℕ) (few : n ≤ most-n) where
   pub cut-read : (m : List Piece) → length m ≡ pieces-carried version n → take (pieces-carried version n) (padded piece-places zero-piece (pieces-read version n m)) ≡ m
   cut-read m e = go (eqb version 1) e
     where

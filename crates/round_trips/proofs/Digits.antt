@@ -16,11 +16,6 @@ use Rattle.pen.specs.Bytes.{bytes-of}
 some : (w : ℕ) → 0 < 256 ^ w
 some w = one-le-pow w 256 (omega arith)
 
-pub bytes-length : (w v : ℕ) → length (bytes-of w v) ≡ w
-unfolding bytes-of
-bytes-length zero v = refl
-bytes-length (suc w) v = ap suc (bytes-length w (v % 256 ^ w))
-
 -- one digit more
 shifted : (a b w : ℕ) → (a * 256 + b) * 256 ^ w ≡ a * 256 ^ suc w + b * 256 ^ w
 shifted a b w = add-mul (a * 256) b (256 ^ w) ∙ rw (mul-assoc a 256 (256 ^ w), mul-comm 256 (256 ^ w), ← pow-suc 256 w)

@@ -17,7 +17,8 @@ use Rattle.fields.specs.declared.Ask.{Ask}
 use Rattle.fields.specs.Fields.{Read, refused, got, _then_, wide, number, field, repeated, ended}
 use Rattle.fields.proofs.Giving.{Each}
 use Rattle.pen.specs.Bytes.{bytes-of}
-use Rattle.round_trips.proofs.Digits.{bytes-length, spelled-back, read-as}
+use Rattle.pen.proofs.Putting.{bytes-length}
+use Rattle.round_trips.proofs.Digits.{spelled-back, read-as}
 
 pub assoc : (a b c : List ℕ) → (a ++ b) ++ c ≡ a ++ (b ++ c)
 assoc [] b c = refl

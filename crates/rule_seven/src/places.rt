@@ -1,54 +1,62 @@
 // The places of a component's arrays: the first ones are used and keep their range, the others are 0.
 use crate::ranges::coefficient_fits;
-use crate::ranges::nlq_fits;
 use crate::ranges::sample_fits;
-use plan::Component;
 use plan::Header;
 use plan::Piece;
-use plan::limits::MOST_N;
-use plan::limits::PIECES;
 use plan::limits::PIVOTS;
 use plan::limits::ROW;
+use plan::methods::coefficients_used;
+use plan::methods::most_idc;
+use plan::methods::most_order;
 ghost use mathlib.Core.Path.{_≡_};
-ghost use mathlib.Core.Bool.{true, cond};
-ghost use lib.Dec.{eqb};
-ghost use Rattle.plan.specs.Ranges.{count-fits, pivot-fits, coefficient-fits};
-ghost use Rattle.plan.specs.Rule7.{is-zero, row-fits, piece-fits, piece-empty, pivots-fit, pieces-fit, component-fits};
+ghost use mathlib.Core.Bool.{cond};
+ghost use lib.Dec.{eqb, ltb};
+ghost use lib.ListN.{getD};
+ghost use Rattle.plan.specs.Ranges.{pivot-fits, coefficient-fits};
+ghost use Rattle.plan.specs.Rule7.{every, pivot-places, is-zero, row-fits, piece-fits, piece-empty};
 ghost use Rattle.plan.specs.inner.Facts.{HeaderFacts};
 
-fn coefficient_place(h: Header, used: bool, z: i64) -> bool
+fn coefficient_place(h: Header, idc: u8, used: bool, z: i64) -> bool
     requires { ⌜ HeaderFacts h ⌝ }
-    ensures { λ r. ⌜ r ≡ cond used (coefficient-fits h z) (is-zero z) ⌝ }
+    ensures { λ r. ⌜ r ≡ cond used (coefficient-fits h idc z) (is-zero z) ⌝ }
 {
-    if used { coefficient_fits(h, z) } else { z == 0 }
+    if used {
+        coefficient_fits(h, idc, z)
+    } else {
+        z == 0
+    }
 }
 
-// A row of which the first k places are used.
-fn row_fits(h: Header, k: usize, row: [i64; ROW]) -> bool
+// A row of which the first `used` places are used.
+fn row_fits(h: Header, idc: u8, used: usize, row: [i64; ROW]) -> bool
     requires { ⌜ HeaderFacts h ⌝ }
-    ensures { λ r. ⌜ r ≡ row-fits h k row ⌝ }
+    ensures { λ r. ⌜ r ≡ row-fits h idc used row ⌝ }
 {
-    let first = coefficient_place(h, 0 < k, row[0]);
-    let second = coefficient_place(h, 1 < k, row[1]);
-    let third = coefficient_place(h, 2 < k, row[2]);
-    first & second & third
+    let mut fit = true;
+    let mut i: usize = 0;
+    while i < ROW {
+        fit = fit & coefficient_place(h, idc, i < used, row[i]);
+        i += 1;
+    }
+    fit
 }
 
-fn piece_fits(h: Header, q: Piece) -> bool
+// A piece of component k: 0 is luma, 1 Cb and 2 Cr.
+pub(crate) fn piece_fits(k: usize, h: Header, q: Piece) -> bool
     requires { ⌜ HeaderFacts h ⌝ }
-    ensures { λ r. ⌜ r ≡ piece-fits h q ⌝ }
+    ensures { λ r. ⌜ r ≡ piece-fits k h q ⌝ }
 {
     let row = q.row;
-    let fits = row_fits(h, (q.order as usize) + 2, row);
-    (q.idc == 0) & ((q.order <= 1) & fits)
+    let fits = row_fits(h, q.idc, coefficients_used(q.idc, q.order), row);
+    (q.idc <= most_idc(k)) & ((q.order <= most_order(q.idc)) & fits)
 }
 
-fn piece_empty(h: Header, q: Piece) -> bool
+pub(crate) fn piece_empty(h: Header, q: Piece) -> bool
     requires { ⌜ HeaderFacts h ⌝ }
     ensures { λ r. ⌜ r ≡ piece-empty h q ⌝ }
 {
     let row = q.row;
-    let empty = row_fits(h, 0, row);
+    let empty = row_fits(h, 0, 0, row);
     (q.idc == 0) & ((q.order == 0) & empty)
 }
 
@@ -59,12 +67,10 @@ fn pivot_place(h: Header, used: bool, v: u16) -> bool
     if used { sample_fits(h.bl, v) } else { v == 0 }
 }
 
-fn pivots_fit(h: Header, c: Component) -> bool
+pub(crate) fn pivots_fit(h: Header, used: usize, preds: [u16; PIVOTS]) -> bool
     requires { ⌜ HeaderFacts h ⌝ }
-    ensures { λ r. ⌜ r ≡ pivots-fit h c ⌝ }
+    ensures { λ r. ⌜ r ≡ every pivot-places (λ i. cond (ltb i used) (pivot-fits h (getD preds i 0)) (eqb (getD preds i 0) 0)) ⌝ }
 {
-    let used = (c.n as usize) + 2;
-    let preds = c.preds;
     let mut fit = true;
     let mut i: usize = 0;
     while i < PIVOTS {
@@ -72,39 +78,4 @@ fn pivots_fit(h: Header, c: Component) -> bool
         i += 1;
     }
     fit
-}
-
-// Pieces that are used, and those that are not, are two loops whose turns go by n: one loop over all places would be unrolled,
-// and the array taken apart byte by byte.
-fn pieces_fit(h: Header, c: Component) -> bool
-    requires { ⌜ HeaderFacts h ⌝ }
-    requires { ⌜ count-fits (c .n) ≡ true ⌝ }
-    ensures { λ r. ⌜ r ≡ pieces-fit h c ⌝ }
-{
-    let used = (c.n as usize) + 2;
-    let pieces = c.pieces;
-    let mut fit = true;
-    let mut p: usize = 0;
-    while p < used {
-        let q = pieces[p];
-        fit = fit & piece_fits(h, q);
-        p += 1;
-    }
-    while p < PIECES {
-        let q = pieces[p];
-        fit = fit & piece_empty(h, q);
-        p += 1;
-    }
-    fit
-}
-
-pub(crate) fn component_fits(h: Header, c: Component) -> bool
-    requires { ⌜ HeaderFacts h ⌝ }
-    ensures { λ r. ⌜ r ≡ component-fits h c ⌝ }
-{
-    if c.n > MOST_N {
-        return false;
-    }
-    let q = c.nlq;
-    pivots_fit(h, c) & (pieces_fit(h, c) & nlq_fits(h, q))
 }

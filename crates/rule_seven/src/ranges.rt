@@ -2,6 +2,7 @@
 // joins them.
 use plan::Header;
 use plan::Nlq;
+use plan::methods::integer_limit;
 ghost use mathlib.Core.Path.{_≡_};
 ghost use Prim.Native.Nat.{_+_, _^_, _≤_};
 ghost use lib.Dec.{ltb};
@@ -17,11 +18,11 @@ pub(crate) fn sample_fits(depth: u8, v: u16) -> bool
     (v as u64) < (1u64 << ((depth as u32) + 8))
 }
 
-pub(crate) fn coefficient_fits(h: Header, z: i64) -> bool
+pub(crate) fn coefficient_fits(h: Header, idc: u8, z: i64) -> bool
     requires { ⌜ HeaderFacts h ⌝ }
-    ensures { λ r. ⌜ r ≡ coefficient-fits h z ⌝ }
+    ensures { λ r. ⌜ r ≡ coefficient-fits h idc z ⌝ }
 {
-    let top = (64u64 << (h.d as u32)) as i64;
+    let top = (integer_limit(idc) << (h.d as u32)) as i64;
     (-top <= z) & (z < top)
 }
 

@@ -4,12 +4,16 @@ use compose::Composed;
 use compose::compose_row_pairs;
 use compose::picture_size;
 use plan::Plan;
+use streams::BLOCK_ROOM;
 use streams::next_block;
 use streams::next_number;
 use streams::next_run;
 use streams::print_refusal;
 use streams::print_run;
 use streams::untouch;
+
+// A run has at most so many samples: those of one row pair, 4,096 columns wide.
+const RUN_ROOM: usize = 12288;
 
 fn print_answer(answer: Composed, output: &[u16]) {
     match answer {
@@ -41,9 +45,9 @@ fn answer_of(
 fn run_job(plan: Plan, output: &mut [u16]) {
     let first = next_number().value;
     let count = next_number().value;
-    let mut base = [0u16; 96];
+    let mut base = [0u16; RUN_ROOM];
     let nb = next_run(&mut base);
-    let mut enhancement = [0u16; 96];
+    let mut enhancement = [0u16; RUN_ROOM];
     let ne = next_run(&mut enhancement);
     untouch(output);
     answer_of(plan, first, count, &base, nb, &enhancement, ne, output);
@@ -62,11 +66,11 @@ fn run_case() -> bool {
     if !len.there {
         return false;
     }
-    let mut bytes = [0u8; 1024];
+    let mut bytes = [0u8; BLOCK_ROOM];
     let reading = next_block(&mut bytes, len.value);
     let plan = reading.plan;
     let h = plan.header;
-    let mut output = [0u16; 96];
+    let mut output = [0u16; RUN_ROOM];
     run_picture(plan, picture_size(h), &mut output);
     true
 }

@@ -10,6 +10,8 @@ mod rules; // the rules' names, and what to do about each
 pub use errors::say_error;
 pub use errors::say_unread;
 pub use errors::say_unwritten;
+pub use field::say_index;
+pub use field::say_mmr_indices;
 pub use fixed::say_about;
 pub use fixed::say_fraction;
 pub use fixed::say_integer_part;

@@ -8,7 +8,7 @@ use crate::say_number;
 
 fn say_name(number: usize) {
     say_line(
-        b"\nshort\ntrailer\nlength\nheader\nfield\nmethod\nplan\nticket\nrun\nrows\nsample\nroom\n",
+        b"\nshort\ntrailer\nlength\nheader\nfield\nreserved\nplan\nticket\nrun\nrows\nsample\nroom\n",
         number,
     );
 }
@@ -21,7 +21,7 @@ fn say_what_to_do(number: usize) {
         the block was cut or joined wrongly: ask the sender\n\
         a picture or a profile that this composer does not do\n\
         the block's maker has a fault: tell them the field and the byte\n\
-        MMR mapping is not built yet\n\
+        not given\n\
         use a plan as reading gave it, or keep to the ranges of a block\n\
         a late job of another picture: drop it\n\
         hand over whole pictures of this size\n\

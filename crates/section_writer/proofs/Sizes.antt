@@ -5,30 +5,36 @@ use mathlib.Core.List.{List, _++_}
 use Prim.Native.Nat.{ℕ, _+_, _*_, _≤_, _<_}
 use native.Mathlib.Nat.{le-antisymm}
 use native.Mathlib.Omega.{arith}
+use lib.Dec.{eqb}
 use lib.IntN.{pos}
 use lib.ListN.{length, getD, length-append}
 use borrow.Author.Tests.{lt-leb, le-leb}
 use Rattle.plan.specs.declared.Piece.{Piece}
 use Rattle.plan.specs.declared.Nlq.{Nlq}
 use Rattle.plan.specs.declared.Component.{Component}
+use Rattle.plan.specs.Ranges.{most-n}
 use Rattle.plan.specs.Rule7.{pivots-used, coefficients-used, no-piece}
 use Rattle.plan.specs.Versions.{pieces-carried, can-carry}
 use Rattle.pen.specs.Bytes.{bytes-of, number-bytes, in-turn}
-use Rattle.pen.proofs.Inking.{two-length, number-length, no-turn, turn-length, turns-length, turns-alike}
-use Rattle.section_writer.specs.Section.{piece-bytes, nlq-bytes, section-bytes}
-use Rattle.section_writer.specs.inner.Writing.{has-section, section-length}
+use Rattle.pen.proofs.Putting.{number-length}
+use Rattle.pen.proofs.Inking.{two-length, no-turn, turn-length, turns-length, turns-alike}
+use Rattle.section_writer.specs.Section.{integer-width, piece-bytes, nlq-bytes, section-bytes}
+use Rattle.section_writer.specs.inner.Writing.{row-bytes, piece-length, most-length, has-section, section-length}
 
 in-all : (n a b c : List ℕ) {x y z : ℕ} → length n ≡ 1 → length a ≡ x → length b ≡ y → length c ≡ z → length (n ++ (a ++ (b ++ c))) ≡ 1 + x + y + z
 in-all n a b c h e f g = omega (arith, length-append n (a ++ (b ++ c)), length-append a (b ++ c), length-append b c, h, e, f, g)
 
 module _ (d : ℕ) where
   -- a piece: mapping_idc and the order, and then the coefficients
-  pub piece-parts : (q : Piece) → length (piece-bytes d q) ≡ 2 + length (in-turn (coefficients-used (q .order)) (λ i. number-bytes d (getD (q .row) i (pos 0))))
+  pub piece-parts : (q : Piece) → length (piece-bytes d q) ≡ 2 + length (row-bytes (eqb (q .idc) 1) d (q .row) (coefficients-used (q .idc) (q .order)))
   unfolding piece-bytes bytes-of
   piece-parts q = omega arith
 
-  pub piece-size : (q : Piece) → length (piece-bytes d q) ≡ 2 + coefficients-used (q .order) * 5
-  piece-size q = piece-parts q ∙ ap (λ (n : ℕ). 2 + n) (turns-length (λ i. number-bytes d (getD (q .row) i (pos 0))) 5 (λ i. number-length d (getD (q .row) i (pos 0))) (coefficients-used (q .order)))
+  pub piece-size : (q : Piece) → length (piece-bytes d q) ≡ piece-length (q .idc) (q .order)
+  piece-size q =
+      let w = integer-width (q .idc) in
+      let e = turns-length (λ i. number-bytes w d (getD (q .row) i (pos 0))) (w + 4) (λ i. number-length w d (getD (q .row) i (pos 0))) (coefficients-used (q .idc) (q .order)) in
+      piece-parts q ∙ ap (λ (n : ℕ). 2 + n) e
 
   nlq-size : (q : Nlq) → length (nlq-bytes d q) ≡ 17
   unfolding nlq-bytes number-bytes bytes-of
@@ -57,13 +63,13 @@ any-denominator version d c =
 pub record Counted (c : Component) (carried size p : ℕ) : Type 0 where
   pub few : p ≤ carried
   pub is : size ≡ 1 + pivots-used (c .n) * 2 + 17 + length (in-turn p (λ p. piece-bytes 0 (getD (c .pieces) p no-piece)))
-  pub small : size ≤ 532 + p * 1287
+  pub small : size ≤ 532 + p * most-length
 
 module _ (c : Component) {carried : ℕ} where
   pub none-counted : {size : ℕ} → (size ≡ 1 + pivots-used (c .n) * 2 + 17) × (size ≤ 532) → Counted c carried size 0
   none-counted f = record { few = omega arith; is = omega (arith, f .0, no-turn (λ p. piece-bytes 0 (getD (c .pieces) p no-piece))); small = omega (arith, f .1) }
 
-  pub one-counted : {size p more : ℕ} → Counted c carried size p → p < carried → (more ≡ 2 + coefficients-used (getD (c .pieces) p no-piece .order) * 5) × (more ≤ 1287) → Counted c carried (size + more) (p + 1)
+  pub one-counted : {size p more : ℕ} → Counted c carried size p → p < carried → (more ≡ piece-length (getD (c .pieces) p no-piece .idc) (getD (c .pieces) p no-piece .order)) × (more ≤ most-length) → Counted c carried (size + more) (p + 1)
   one-counted {p = p} h b f =
       record {
         few = omega arith;
@@ -78,14 +84,14 @@ module _ (c : Component) {carried : ℕ} where
 
 -- what the code works out
 module _ (version : ℕ) (c : Component) where
-  pub too-many : 15 < c .n → 0 ≡ section-length version c
-  too-many h = rw (lt-leb (c .n) 15 h)
+  pub too-many : most-n < c .n → 0 ≡ section-length version c
+  too-many h = rw (lt-leb (c .n) most-n h)
 
-  pub not-all : c .n ≤ 15 → can-carry version c ≡ false → 0 ≡ section-length version c
-  not-all h e = rw (le-leb (c .n) 15 h, e)
+  pub not-all : c .n ≤ most-n → can-carry version c ≡ false → 0 ≡ section-length version c
+  not-all h e = rw (le-leb (c .n) most-n h, e)
 
-  pub worked-out : {m : ℕ} → c .n ≤ 15 → can-carry version c ≡ true → m ≡ 1 + pivots-used (c .n) * 2 + 17 + length (pieces-of 0 version c) → m ≡ section-length version c
-  worked-out h k e = rw (le-leb (c .n) 15 h, k, e) (omega (arith, section-parts 0 version c))
+  pub worked-out : {m : ℕ} → c .n ≤ most-n → can-carry version c ≡ true → m ≡ 1 + pivots-used (c .n) * 2 + 17 + length (pieces-of 0 version c) → m ≡ section-length version c
+  worked-out h k e = rw (le-leb (c .n) most-n h, k, e) (omega (arith, section-parts 0 version c))
 
   -- the length whatever the denominator
   pub in-all-bytes : (d : ℕ) {m : ℕ} → m ≡ 1 + pivots-used (c .n) * 2 + 17 + length (pieces-of 0 version c) → length (section-bytes version d c) ≡ m

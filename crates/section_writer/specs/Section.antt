@@ -1,6 +1,8 @@
 -- A section of the composing block as bytes (the house layout), field by field from the page.
+use mathlib.Core.Bool.{cond}
 use mathlib.Core.List.{List, _++_}
 use Prim.Native.Nat.{ℕ}
+use lib.Dec.{eqb}
 use lib.IntN.{pos}
 use lib.ListN.{getD}
 use Rattle.plan.specs.declared.Piece.{Piece}
@@ -10,20 +12,24 @@ use Rattle.plan.specs.Rule7.{pivots-used, coefficients-used, no-piece}
 use Rattle.plan.specs.Versions.{pieces-carried}
 use Rattle.pen.specs.Bytes.{bytes-of, number-bytes, in-turn}
 
--- a piece: mapping_idc, poly_order_minus1, then poly_order_minus1 + 2 coefficients
+-- by mapping_idc: the integer part of a coefficient has 1 byte, or 4
+abbrev pub integer-width : ℕ → ℕ
+integer-width idc = cond (eqb idc 1) 4 1
+
+-- a piece: mapping_idc, poly_order_minus1 or mmr_order_minus1, then its coefficients
 unfoldable pub piece-bytes : ℕ → Piece → List ℕ
 piece-bytes d q =
     bytes-of 1 (q .idc)
     ++ (bytes-of 1 (q .order)
-    ++ in-turn (coefficients-used (q .order)) (λ i. number-bytes d (getD (q .row) i (pos 0))))
+    ++ in-turn (coefficients-used (q .idc) (q .order)) (λ i. number-bytes (integer-width (q .idc)) d (getD (q .row) i (pos 0))))
 
 -- nlq_offset, then hdr_in_max, slope and threshold
 unfoldable pub nlq-bytes : ℕ → Nlq → List ℕ
 nlq-bytes d q =
     bytes-of 2 (q .offset)
-    ++ (number-bytes d (pos (q .maximum))
-    ++ (number-bytes d (pos (q .slope))
-    ++ number-bytes d (pos (q .threshold))))
+    ++ (number-bytes 1 d (pos (q .maximum))
+    ++ (number-bytes 1 d (pos (q .slope))
+    ++ number-bytes 1 d (pos (q .threshold))))
 
 -- a section of a version: num_pivots_minus2, n + 2 pred_pivot_value, the pieces that the version carries, and the residual's numbers
 unfoldable pub section-bytes : ℕ → ℕ → Component → List ℕ

@@ -1,5 +1,6 @@
 // Whether a version carries all pieces of a component.
 use plan::Piece;
+use plan::limits::ROW;
 ghost use mathlib.Core.Path.{_≡_};
 ghost use Rattle.plan.specs.Versions.{same-number, same-piece, carries};
 
@@ -12,10 +13,13 @@ fn equal(x: i64, y: i64) -> bool
 fn is_same(a: Piece, b: Piece) -> bool
     ensures { λ r. ⌜ r ≡ same-piece a b ⌝ }
 {
-    let x = a.row;
-    let y = b.row;
-    let row = equal(x[0], y[0]) & equal(x[1], y[1]) & equal(x[2], y[2]);
-    (a.idc == b.idc) & ((a.order == b.order) & row)
+    let mut rows = true;
+    let mut i: usize = 0;
+    while i < ROW {
+        rows = rows & equal(a.row[i], b.row[i]);
+        i += 1;
+    }
+    (a.idc == b.idc) & ((a.order == b.order) & rows)
 }
 
 // Of all pieces the last two are handed over: version 2 carries them all, and version 1 where piece n stands twice.

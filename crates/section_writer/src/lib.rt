@@ -49,9 +49,9 @@ fn nlq(out: &mut [u8], at: usize, d: u8, q: Nlq)
     unsigned(out, at + 12, d, q.threshold);
 }
 
-// Writes the section of a component in a version from `at` on, with fractions of d bits. Where it does not fit nothing is written.
-// Its length is worked out here again, and not by `section_length`: the component is read where it lies, and to hand it on is to
-// copy it.
+// Writes the section of a component in a version from `at` on, with fractions of d bits. Where it does not fit nothing is
+// written. Its length is worked out here again, and not by `section_length`: the component is read where it lies, and to
+// hand it on is to copy it.
 pub fn put_section(out: &mut [u8], at: usize, version: u16, d: u8, c: Component)
     ensures { λ _. ⌜ now (out .exit) ≡ put-section (now (out .entry)) at version d c ⌝ }
 {
@@ -68,7 +68,7 @@ pub fn put_section(out: &mut [u8], at: usize, version: u16, d: u8, c: Component)
     let mut size = frame_length(n);
     let mut k: usize = 0;
     while k < carried {
-        size += piece_length(c.pieces[k].order);
+        size += piece_length(c.pieces[k].idc, c.pieces[k].order);
         k += 1;
     }
     if out.len() < size {

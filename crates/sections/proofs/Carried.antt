@@ -9,6 +9,7 @@ use lib.Dec.{eqb}
 use lib.ListN.{length, getD, set, length-append, List·getD-append}
 use lib.Seq.{getD-append-seam}
 use Rattle.plan.specs.declared.Piece.{Piece}
+use Rattle.plan.specs.Ranges.{most-n}
 use Rattle.plan.specs.Rule7.{pieces-used, piece-places, no-piece, zero-piece}
 use Rattle.plan.specs.Versions.{pieces-carried, pieces-read}
 use Rattle.fields.specs.Fields.{padded}
@@ -49,7 +50,7 @@ module _ (P : Piece → Type 0) (version n : ℕ) where
       go false f = (f, p)
 
 -- piece n stands twice
-module _ (n : ℕ) (few : n ≤ 15) (l : List Piece) (long : length l ≡ n + 1) where
+module _ (n : ℕ) (few : n ≤ most-n) (l : List Piece) (long : length l ≡ n + 1) where
   abbrev twice : List Piece
   twice = l ++ (getD l n no-piece ∷ [])
 

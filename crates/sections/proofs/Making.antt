@@ -12,7 +12,7 @@ use Rattle.plan.specs.declared.Header.{Header}
 use Rattle.plan.specs.declared.Piece.{Piece}
 use Rattle.plan.specs.declared.Nlq.{Nlq}
 use Rattle.plan.specs.declared.Component.{Component}
-use Rattle.plan.specs.Ranges.{header-fits, count-fits, order-fits, fraction-fits}
+use Rattle.plan.specs.Ranges.{most-n, header-fits, count-fits, idc-fits, order-fits, fraction-fits}
 use Rattle.plan.specs.Rule7.{pivot-places, piece-places, row-places, pivots-used, coefficients-used, no-piece, zero-piece, piece-fits}
 use Rattle.plan.specs.Versions.{pieces-carried, pieces-read}
 use Rattle.plan.specs.inner.Copying.{copied}
@@ -24,32 +24,32 @@ use Rattle.fields.specs.inner.Cursors.{start, from, Reads, filled}
 use Rattle.fields.proofs.Following.{joined, joined-by, reads-as, done}
 use Rattle.fields.proofs.Filling.{listed}
 use Rattle.fields.proofs.Giving.{Each, Gives, repeated-gives}
-use Rattle.section_fields.specs.Fields.{asked, ranged, signed, integer-fits}
-use Rattle.sections.specs.Sections.{coefficient, unsigned, idc, piece, pivot, nlq, section}
+use Rattle.section_fields.specs.Fields.{asked, ranged, order-kind, integer-kind, integer-width, signed, integer-fits}
+use Rattle.sections.specs.Sections.{coefficient, unsigned, piece, pivot, nlq, section}
 use Rattle.sections.specs.inner.Answering.{under, failed, found}
 use Rattle.sections.specs.inner.Holding.{held}
 use Rattle.sections.proofs.Carried.{copy-leaves}
 use Rattle.sections.proofs.Fitting.{piece-gives}
 
 module _ {s : List ℕ} (h : Header) (k : ℕ) {c c1 c2 : Cursor} where
-  pub made-coefficient : (p i one n f : ℕ) {y : Ask} {z a : ℤ} → z ≡ a *ℤ pos one +ℤ pos f → a ≡ signed n → one ≡ 2 ^ h .d → y ≡ asked 6 k p i Four
-      → Reads s c (ranged (asked 5 k p i One) integer-fits) n c1 → Reads s c1 (ranged y (fraction-fits h)) f c2 → Reads s c (coefficient h k p i) z c2
+  pub made-coefficient : (p idc i one n f : ℕ) {y : Ask} {z a : ℤ} → z ≡ a *ℤ pos one +ℤ pos f → a ≡ signed (integer-width idc) n → one ≡ 2 ^ h .d → y ≡ asked (integer-kind idc i + 1) k p i Four
+      → Reads s c (ranged (asked (integer-kind idc i) k p i (integer-width idc)) (integer-fits idc)) n c1 → Reads s c1 (ranged y (fraction-fits h)) f c2 → Reads s c (coefficient h k p idc i) z c2
   unfolding coefficient
-  made-coefficient p i one n f e q d y r t = rw (e, q, d) (joined _ r (joined _ (rw y at t) done))
+  made-coefficient p idc i one n f e q d y r t = rw (e, q, d) (joined _ r (joined _ (rw y at t) done))
 
   pub made-unsigned : (kind one n f : ℕ) {x y : Ask} → one ≡ 2 ^ h .d → x ≡ asked kind k 0 0 One → y ≡ asked (kind + 1) k 0 0 Four
       → Reads s c (ranged x (λ v. leb v 1)) n c1 → Reads s c1 (ranged y (fraction-fits h)) f c2 → Reads s c (unsigned h k kind) (n * one + f) c2
   unfolding unsigned
   made-unsigned kind one n f d x y r t = rw d (joined _ (rw x at r) (joined _ (rw y at t) done))
 
-  pub made-piece : (p m o : ℕ) {x : Ask} {row : List ℤ} {c3 : Cursor} → x ≡ asked 4 k p 0 One → Reads s c (idc k p) m c1 → Reads s c1 (ranged x order-fits) o c2
-      → Reads s c2 (filled row-places (pos 0) (coefficients-used o) (coefficient h k p)) row c3
+  pub made-piece : (p m o : ℕ) {row : List ℤ} {c3 : Cursor} → Reads s c (ranged (asked 3 k p 0 One) (idc-fits k)) m c1 → Reads s c1 (ranged (asked (order-kind m) k p 0 One) (order-fits m)) o c2
+      → Reads s c2 (filled row-places (pos 0) (coefficients-used m o) (coefficient h k p m)) row c3
       → Reads s c (piece h k p) (record { idc = m; order = o; row = row }) c3
   unfolding piece
-  made-piece p m o x a b r =
+  made-piece p m o a b r =
       joined _ a
-      (joined _ (rw x at b)
-      (listed row-places (pos 0) (coefficients-used o) (coefficient h k p) (λ row rest. got (record { idc = m; order = o; row = row }) rest) r done))
+      (joined _ b
+      (listed row-places (pos 0) (coefficients-used m o) (coefficient h k p m) (λ row rest. got (record { idc = m; order = o; row = row }) rest) r done))
 
   pub made-section : (version n : ℕ) {x y : Ask} {preds : List ℕ} {pieces : List Piece} {residual : Nlq} {c3 c4 c5 : Cursor} → x ≡ asked 1 k 0 0 One → y ≡ asked 14 k 0 0 One
       → Reads s c (ranged x count-fits) n c1 → Reads s c1 (filled pivot-places 0 (pivots-used n) (pivot h k)) preds c2
@@ -64,10 +64,10 @@ module _ {s : List ℕ} (h : Header) (k : ℕ) {c c1 c2 : Cursor} where
 
 module _ {s : List ℕ} (h : Header) (k : ℕ) {c c1 : Cursor} where
   -- what is carried of the pieces, and of version 1 piece n again
-  pub made-held : (version n : ℕ) {carried pieces : List Piece} → n ≤ 15 → Reads s c (filled piece-places zero-piece (pieces-carried version n) (piece h k)) carried c1 → pieces ≡ copied version n carried → Reads s c (held version h k n) pieces c1
+  pub made-held : (version n : ℕ) {carried pieces : List Piece} → n ≤ most-n → Reads s c (filled piece-places zero-piece (pieces-carried version n) (piece h k)) carried c1 → pieces ≡ copied version n carried → Reads s c (held version h k n) pieces c1
   made-held version n {carried} {pieces} few r e = go (eqb version 1) r e
     where
-      after : (b : Read (List Piece)) → Gives (λ l. (length l ≡ n + 1) × Each (λ q. piece-fits h q ≡ true) l) b
+      after : (b : Read (List Piece)) → Gives (λ l. (length l ≡ n + 1) × Each (λ q. piece-fits k h q ≡ true) l) b
           → ((b then λ l rest. got (padded piece-places zero-piece l) rest) then λ l rest. got (set l (n + 1) (getD l n no-piece)) rest)
           ≡ (b then λ l rest. got (padded piece-places zero-piece (l ++ (getD l n no-piece ∷ []))) rest)
       after (refused i name rest) g = refl
@@ -76,7 +76,7 @@ module _ {s : List ℕ} (h : Header) (k : ℕ) {c c1 : Cursor} where
       go : (t : Bool) → Reads s c (filled piece-places zero-piece (cond t (n + 1) (n + 2)) (piece h k)) carried c1 → pieces ≡ cond (t && count-fits n) (set carried (n + 1) (getD carried n no-piece)) carried
           → Reads s c (λ b. repeated 0 (cond t (n + 1) (n + 2)) (piece h k) b then λ l rest. got (padded piece-places zero-piece (cond t (l ++ (getD l n no-piece ∷ [])) l)) rest) pieces c1
       go true r e =
-          rw (e, le-leb n 15 few)
+          rw (e, le-leb n most-n few)
           (reads-as (λ b. after (repeated 0 (n + 1) (piece h k) b) (repeated-gives _ 0 (n + 1) (piece h k) (piece-gives h k) b))
           (joined (λ l rest. got (set l (n + 1) (getD l n no-piece)) rest) r done))
       go false r e = rw e r

@@ -1,26 +1,26 @@
 -- A section of the composing block (the house rules): pivots, pieces and the residual's numbers of one component.
 use mathlib.Core.List.{List}
 use Prim.Native.Nat.{ℕ, _+_, _*_, _^_}
-use lib.Dec.{leb, ltb, eqb}
+use lib.Dec.{leb}
 use lib.IntN.{ℤ, pos}
 use Rattle.standard.specs.Parameters.{fp}
 use Rattle.plan.specs.declared.Header.{Header}
 use Rattle.plan.specs.declared.Piece.{Piece}
 use Rattle.plan.specs.declared.Nlq.{Nlq}
 use Rattle.plan.specs.declared.Component.{Component}
-use Rattle.plan.specs.Ranges.{count-fits, pivot-fits, order-fits, offset-fits, fraction-fits}
+use Rattle.plan.specs.Ranges.{count-fits, pivot-fits, idc-fits, order-fits, offset-fits, fraction-fits}
 use Rattle.plan.specs.Rule7.{pivot-places, piece-places, row-places, pivots-used, coefficients-used, zero-piece}
 use Rattle.plan.specs.Versions.{pieces-carried, pieces-read}
 use Rattle.fields.specs.declared.Width.the-variants.{One, Two, Four}
-use Rattle.fields.specs.Fields.{Read, got, _then_, field, repeated, padded, ended}
-use Rattle.section_fields.specs.Fields.{asked, ranged, signed, integer-fits, refused-idc}
+use Rattle.fields.specs.Fields.{Read, got, _then_, repeated, padded, ended}
+use Rattle.section_fields.specs.Fields.{asked, ranged, order-kind, integer-kind, integer-width, signed, integer-fits}
 
--- coefficient i of piece p: a signed byte -64 to 63, and a fraction of 4 bytes
-unfoldable pub coefficient : Header → ℕ → ℕ → ℕ → List ℕ → Read ℤ
-coefficient h k p i bytes =
-    ranged (asked 5 k p i One) integer-fits bytes then λ n rest.
-    ranged (asked 6 k p i Four) (fraction-fits h) rest then λ f rest.
-    got (fp (h .d) (signed n) f) rest
+-- the coefficient in place i of piece p, by its mapping_idc: a signed byte -64 to 63, or 4 bytes -65,536 to 65,535, and a fraction of 4
+unfoldable pub coefficient : Header → ℕ → ℕ → ℕ → ℕ → List ℕ → Read ℤ
+coefficient h k p idc i bytes =
+    ranged (asked (integer-kind idc i) k p i (integer-width idc)) (integer-fits idc) bytes then λ n rest.
+    ranged (asked (integer-kind idc i + 1) k p i Four) (fraction-fits h) rest then λ f rest.
+    got (fp (h .d) (signed (integer-width idc) n) f) rest
 
 -- hdr_in_max, slope, threshold: an integer byte 0 or 1, and a fraction of 4 bytes
 unfoldable pub unsigned : Header → ℕ → ℕ → List ℕ → Read ℕ
@@ -29,16 +29,12 @@ unsigned h k kind bytes =
     ranged (asked (kind + 1) k 0 0 Four) (fraction-fits h) rest then λ f rest.
     got (n * 2 ^ h .d + f) rest
 
--- mapping_idc of piece p
-abbrev pub idc : ℕ → ℕ → List ℕ → Read ℕ
-idc k p = field (asked 3 k p 0 One) (λ v. eqb v 0) (refused-idc k)
-
--- piece p: mapping_idc, poly_order_minus1, and its coefficients; the places beyond are 0
+-- piece p: mapping_idc, poly_order_minus1 or mmr_order_minus1, and its coefficients; the places beyond are 0
 unfoldable pub piece : Header → ℕ → ℕ → List ℕ → Read Piece
 piece h k p bytes =
-    idc k p bytes then λ m rest.
-    ranged (asked 4 k p 0 One) order-fits rest then λ o rest.
-    repeated 0 (coefficients-used o) (coefficient h k p) rest then λ row rest.
+    ranged (asked 3 k p 0 One) (idc-fits k) bytes then λ m rest.
+    ranged (asked (order-kind m) k p 0 One) (order-fits m) rest then λ o rest.
+    repeated 0 (coefficients-used m o) (coefficient h k p m) rest then λ row rest.
     got (record { idc = m; order = o; row = padded row-places (pos 0) row }) rest
 
 -- pred_pivot_value i

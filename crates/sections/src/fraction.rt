@@ -1,4 +1,4 @@
-// Numbers with a fraction: an integer byte, and a fraction of four bytes below 2 ^ d.
+// Numbers with a fraction: an integer part, and a fraction of four bytes below 2 ^ d.
 use fields::Ask;
 use fields::Cursor;
 use fields::Field;
@@ -7,8 +7,8 @@ use fields::at_most;
 use fields::below;
 use plan::Header;
 use section_fields::asked;
+use section_fields::fraction_asked;
 use section_fields::integer;
-use section_fields::kinds::POLY_COEF;
 use section_fields::signed;
 ghost use mathlib.Core.Path.{_≡_};
 ghost use Prim.Native.Nat.{_^_, _<_, _≤_};
@@ -40,24 +40,25 @@ pub(crate) fn below_power(s: &[u8], c: Cursor, a: Ask, bits: u8) -> Field
     below(s, c, a, limit, 5)
 }
 
-// Coefficient i of piece p. The fraction adds upward, also to a negative integer part.
+// The coefficient in place i of piece p. The fraction adds upward, also to a negative integer part.
 pub(crate) fn coefficient(
     s: &[u8],
     c: Cursor,
     h: Header,
     k: usize,
     p: usize,
+    idc: u8,
     i: usize,
 ) -> SignedField
     requires { ⌜ HeaderFacts h ⌝ }
-    ensures { λ r. ⌜ Reads (now (s .entry)) c (coefficient h k p i) (r .value) (r .next) ⌝ }
+    ensures { λ r. ⌜ Reads (now (s .entry)) c (coefficient h k p idc i) (r .value) (r .next) ⌝ }
 {
     let one = power(h.d);
-    let n = integer(s, c, k, p, i);
+    let n = integer(s, c, k, p, idc, i);
     let c1 = n.next;
-    let f = below_power(s, c1, asked(POLY_COEF, k, p, i, Width::Four), h.d);
+    let f = below_power(s, c1, fraction_asked(k, p, idc, i), h.d);
     let c2 = f.next;
-    let a = signed(n.value as u8);
+    let a = signed(idc, n.value as u32);
     SignedField {
         value: a * (one as i64) + (f.value as i64),
         next: c2,

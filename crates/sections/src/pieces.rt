@@ -1,17 +1,15 @@
-// The pieces of a section: mapping_idc, poly_order_minus1, and the coefficients.
+// The pieces of a section: mapping_idc, the order, and the coefficients.
 use crate::fraction::coefficient;
 use fields::Cursor;
-use fields::Width;
-use fields::at_most;
 use plan::Header;
 use plan::Piece;
 use plan::limits::PIECES;
 use plan::limits::ROW;
+use plan::methods::coefficients_used;
 use plan::versions::copy_last;
 use plan::versions::pieces_carried;
-use section_fields::asked;
 use section_fields::idc;
-use section_fields::kinds::POLY_ORDER_MINUS1;
+use section_fields::order;
 ghost use Prim.Native.Nat.{_≤_};
 ghost use lib.IntN.{pos};
 ghost use Rattle.plan.specs.Ranges.{most-n};
@@ -36,15 +34,15 @@ pub(crate) struct PiecesRead {
     pub(crate) next: Cursor,
 }
 
-fn row(s: &[u8], c: Cursor, h: Header, k: usize, p: usize, count: usize) -> RowRead
+fn row(s: &[u8], c: Cursor, h: Header, k: usize, p: usize, idc: u8, count: usize) -> RowRead
     requires { ⌜ HeaderFacts h × (count ≤ row-places) ⌝ }
-    ensures { λ r. ⌜ Reads (now (s .entry)) c (filled row-places (pos 0) count (coefficient h k p)) (r .list) (r .next) ⌝ }
+    ensures { λ r. ⌜ Reads (now (s .entry)) c (filled row-places (pos 0) count (coefficient h k p idc)) (r .list) (r .next) ⌝ }
 {
     let mut list = [0i64; ROW];
     let mut next = c;
     let mut i: usize = 0;
     while i < count {
-        let f = coefficient(s, next, h, k, p, i);
+        let f = coefficient(s, next, h, k, p, idc, i);
         let x = f.value;
         list[i] = x;
         next = f.next;
@@ -60,16 +58,18 @@ fn piece(s: &[u8], c: Cursor, h: Header, k: usize, p: usize) -> PieceRead
     requires { ⌜ HeaderFacts h ⌝ }
     ensures { λ r. ⌜ Reads (now (s .entry)) c (piece h k p) (r .piece) (r .next) ⌝ }
 {
-    let m = idc(s, c, k, p);
-    let c1 = m.next;
-    let o = at_most(s, c1, asked(POLY_ORDER_MINUS1, k, p, 0, Width::One), 1, 5);
-    let c2 = o.next;
-    let r = row(s, c2, h, k, p, (o.value as usize) + 2);
+    let f = idc(s, c, k, p);
+    let c1 = f.next;
+    let m = f.value as u8;
+    let g = order(s, c1, k, p, m);
+    let c2 = g.next;
+    let o = g.value as u8;
+    let r = row(s, c2, h, k, p, m, coefficients_used(m, o));
     let list = r.list;
     let c3 = r.next;
     let q = Piece {
-        idc: m.value as u8,
-        order: o.value as u8,
+        idc: m,
+        order: o,
         row: list,
     };
     PieceRead { piece: q, next: c3 }

@@ -5,3 +5,4 @@ pub mod Polynomials
 pub mod Zero
 pub mod Residuals
 pub mod Examples
+pub mod MmrExamples

@@ -5,13 +5,17 @@ use mathlib.Core.List.{List, [], _∷_}
 use Prim.Native.Nat.{ℕ}
 use lib.IntN.{ℤ, pos, negℤ}
 use lib.ListN.{getD}
-use Rattle.standard.specs.Parameters.{Mapping, Quantization, fp}
+use Rattle.standard.specs.Parameters.{Mmr, Mapping, Quantization, fp}
 use Rattle.standard.specs.Mapping.{mapped}
 use Rattle.standard.specs.Residual.{residual, reconstructed}
 
--- pieces given by their coefficients, from pred_pivot_value's list; every piece has the same order
+-- what a polynomial piece has of MMR
+abbrev pub no-mmr : Mmr
+no-mmr = record { mmr-order-minus1 = 0; fp-mmr-constant = pos 0; fp-mmr-coef = λ i j. pos 0 }
+
+-- polynomial pieces given by their coefficients, from pred_pivot_value's list; every piece has the same order
 abbrev pub pieces : List ℕ → ℕ → ℕ → List (List ℤ) → Mapping
-pieces preds n order rows = record { num-pivots-minus2 = n; pred-pivot-value = λ i. getD preds i 0; poly-order-minus1 = λ p. order; fp-poly-coef = λ p i. getD (getD rows p []) i (pos 0) }
+pieces preds n order rows = record { num-pivots-minus2 = n; pred-pivot-value = λ i. getD preds i 0; mapping-idc = λ p. 0; poly-order-minus1 = λ p. order; fp-poly-coef = λ p i. getD (getD rows p []) i (pos 0); mmr = λ p. no-mmr }
 
 -- one piece over the pivots 0 and 1023, of order 1 or 2: like every plan of E1 to E14 it holds its last piece twice
 abbrev pub line : ℤ → ℤ → Mapping

@@ -2,12 +2,20 @@
 use Prim.Native.Nat.{ℕ, _*_, _^_}
 use lib.IntN.{ℤ, pos, _+ℤ_, _*ℤ_}
 
--- 5.3.2, 5.3.3: how one component is mapped; pieces and coefficients are counted from 0
+-- 5.3.3.3: one piece of MMR; coefficient [i][j] has i from 1 to the order and j from 0 to 6
+pub record Mmr : Type 0 where
+  pub mmr-order-minus1 : ℕ
+  pub fp-mmr-constant : ℤ
+  pub fp-mmr-coef : ℕ → ℕ → ℤ
+
+-- 5.3.2, 5.3.3: how one component is mapped; pieces are counted from 0, and so are a polynomial's coefficients
 pub record Mapping : Type 0 where
   pub num-pivots-minus2 : ℕ
   pub pred-pivot-value : ℕ → ℕ
+  pub mapping-idc : ℕ → ℕ
   pub poly-order-minus1 : ℕ → ℕ
   pub fp-poly-coef : ℕ → ℕ → ℤ
+  pub mmr : ℕ → Mmr
 
 -- 5.3.4: how one component's residual is inverse quantized
 pub record Quantization : Type 0 where

@@ -1,4 +1,5 @@
 // What the vector programs share: numbers, runs and plans from standard input, runs to standard output.
+pub mod numbering; // the numbers of a plan's places
 mod places; // a plan with one place changed
 
 use block::Reading;
@@ -9,6 +10,9 @@ ghost use Prim.Native.Nat.{_<_, _≤_};
 ghost use Rattle.runs.specs.Runs.{painted};
 ghost use Rattle.block.specs.Facts.{Sound};
 ghost use Rattle.streams.specs.inner.Untouched.{everywhere, untouched};
+
+// A block of the vectors has at most so many bytes.
+pub const BLOCK_ROOM: usize = 8192;
 
 // A number of the input; `there` is false where the input has ended.
 pub struct Number {

@@ -1,5 +1,11 @@
-// A plan with one place changed. The places have the numbers that block_vectors gives them: 11 of the header, then 107 of each
-// component. A value has 64 bits, of which a narrower field takes the lowest.
+// A plan with one place changed. A value has 64 bits, of which a narrower field takes the lowest.
+use crate::numbering::COMPONENT;
+use crate::numbering::FIRST_COEFFICIENT;
+use crate::numbering::FIRST_PIECE;
+use crate::numbering::FIRST_PIVOT;
+use crate::numbering::HEADER;
+use crate::numbering::NLQ;
+use crate::numbering::PIECE;
 use plan::Component;
 use plan::Header;
 use plan::Nlq;
@@ -47,12 +53,12 @@ fn put_header(given: Header, place: usize, v: u64) -> Header {
 
 fn put_piece(given: Piece, place: usize, v: u64) -> Piece {
     let mut q = given;
-    match place {
-        0 => q.idc = byte(v),
-        1 => q.order = byte(v),
-        2 => q.row[0] = signed(v),
-        3 => q.row[1] = signed(v),
-        _ => q.row[2] = signed(v),
+    if place == 0 {
+        q.idc = byte(v);
+    } else if place < FIRST_COEFFICIENT {
+        q.order = byte(v);
+    } else if place < PIECE {
+        q.row[place - FIRST_COEFFICIENT] = signed(v);
     }
     q
 }
@@ -70,35 +76,35 @@ fn put_nlq(given: Nlq, place: usize, v: u64) -> Nlq {
 
 fn put_component(given: Component, place: usize, v: u64) -> Component {
     let mut c = given;
-    if place == 0 {
+    if place < FIRST_PIVOT {
         c.n = byte(v);
-    } else if place < 18 {
-        c.preds[place - 1] = short(v);
-    } else if place < 103 {
-        let p = (place - 18) / 5;
+    } else if place < FIRST_PIECE {
+        c.preds[place - FIRST_PIVOT] = short(v);
+    } else if place < NLQ {
+        let p = (place - FIRST_PIECE) / PIECE;
         let q = c.pieces[p];
-        c.pieces[p] = put_piece(q, (place - 18) % 5, v);
+        c.pieces[p] = put_piece(q, (place - FIRST_PIECE) % PIECE, v);
     } else {
         let q = c.nlq;
-        c.nlq = put_nlq(q, place - 103, v);
+        c.nlq = put_nlq(q, place - NLQ, v);
     }
     c
 }
 
 pub(crate) fn put(given: Plan, place: usize, v: u64) -> Plan {
     let mut plan = given;
-    if place < 11 {
+    if place < HEADER {
         let h = plan.header;
         plan.header = put_header(h, place, v);
-    } else if place < 118 {
+    } else if place < HEADER + COMPONENT {
         let c = plan.y;
-        plan.y = put_component(c, place - 11, v);
-    } else if place < 225 {
+        plan.y = put_component(c, place - HEADER, v);
+    } else if place < HEADER + 2 * COMPONENT {
         let c = plan.cb;
-        plan.cb = put_component(c, place - 118, v);
+        plan.cb = put_component(c, place - HEADER - COMPONENT, v);
     } else {
         let c = plan.cr;
-        plan.cr = put_component(c, place - 225, v);
+        plan.cr = put_component(c, place - HEADER - 2 * COMPONENT, v);
     }
     plan
 }

@@ -5,7 +5,7 @@ ghost use lib.ListN.{length, set};
 ghost use Rattle.sums.specs.inner.Sums.{sixteenth, summed};
 
 // The sum is made in 64 bits, so that no table can make it wrap.
-fn sixteenth_of(v: u16, r: u32) -> u16
+pub(crate) fn sixteenth_of(v: u16, r: u32) -> u16
     ensures { λ u. ⌜ u ≡ sixteenth (v + r) ⌝ }
 {
     (((v as u64) + (r as u64)) / 16 % 65536) as u16

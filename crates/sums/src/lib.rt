@@ -2,21 +2,30 @@
 mod entries; // what is written for one sample
 mod passes; // the two passes over a part
 
+use entries::sixteenth_of;
+use passes::lower;
 use passes::lower_all;
 use passes::sum_up;
 use spans::least;
 ghost use mathlib.Core.Path.{_≡_};
-ghost use Prim.Native.Nat.{min};
+ghost use Prim.Native.Nat.{_+_, min};
 ghost use lib.ListN.{length};
 ghost use Rattle.runs.specs.Runs.{painted};
 ghost use Rattle.runs.specs.inner.Loops.{below};
-ghost use Rattle.sums.specs.inner.Sums.{added-up};
+ghost use Rattle.sums.specs.inner.Sums.{cut-of, added-up};
 
 // How a sample is cut out of a sixteenth of a sum: shifted, lowered, and at most so high.
 pub struct Cut {
     pub shift: u32,
     pub low: u16,
     pub most: u16,
+}
+
+// The sample that is cut out of the sum of one mapped sample and a raised residual.
+pub fn cut_out(cut: Cut, v: u16, r: u32) -> u16
+    ensures { λ h. ⌜ h ≡ cut-of cut (v + r) ⌝ }
+{
+    lower(cut.shift % 16, cut.low, cut.most, sixteenth_of(v, r))
 }
 
 // So many samples stay in the nearest cache from the first pass to the second.

@@ -41,7 +41,7 @@ pub(crate) fn sum_up(
     }
 }
 
-fn lower(shift: u32, low: u16, most: u16, u: u16) -> u16
+pub(crate) fn lower(shift: u32, low: u16, most: u16, u: u16) -> u16
     requires { ⌜ shift < 16 ⌝ }
     ensures { λ r. ⌜ r ≡ min (u / 2 ^ shift - low) most ⌝ }
 {

@@ -3,11 +3,22 @@
 // on each side of it; after a block that was written, the number that reading it gives, the same for what was read, and what
 // becomes of the block as text. A stream that is malformed ends there.
 use plan::Plan;
+use streams::BLOCK_ROOM;
 use streams::next_block;
 use streams::next_byte;
 use streams::next_number;
 use streams::next_plan;
 use writer::Writing;
+
+// The longest slice that is lent, the guard on each side of it, and both guards.
+const SLICE_ROOM: usize = 6720;
+
+const GUARD: usize = 16;
+
+const GUARDS: usize = 2 * GUARD;
+
+// A text has at most so many bytes.
+const TEXT_ROOM: usize = 32768;
 
 fn say_number(v: usize) {
     io::print_decimal(1, v as u64);
@@ -91,18 +102,18 @@ fn say_same(a: &[u8], b: &[u8]) {
 
 // A block's text is made a block again, and that is shown again: whether block and text are the same as before.
 fn say_made_again(block: &[u8], text: &[u8]) {
-    let mut bytes = [0u8; 1280];
+    let mut bytes = [0u8; BLOCK_ROOM];
     let n = plan_text::make(text, &mut bytes).length;
     let made = part_of(&bytes, 0, n);
     say_same(block, made);
-    let mut room = [0u8; 8192];
+    let mut room = [0u8; TEXT_ROOM];
     let shown = plan_text::show(made, &mut room);
     say_same(text, part_of(&room, 0, shown));
 }
 
 // The length and the check sum of a block's text.
 fn say_text(block: &[u8]) {
-    let mut room = [0u8; 8192];
+    let mut room = [0u8; TEXT_ROOM];
     let shown = plan_text::show(block, &mut room);
     let text = part_of(&room, 0, shown);
     io::write_all(1, b" ");
@@ -113,12 +124,12 @@ fn say_text(block: &[u8]) {
 
 // Lends what lies between the guards, and gives the length that was written.
 fn write_once(plan: Plan, version: u16, first: usize, room: &mut [u8]) -> usize {
-    if room.len() < 32 {
+    if room.len() < GUARDS {
         return 0;
     }
     fill(room, first);
-    let end = room.len() - 16;
-    let n = say_answer(writer::write(plan, version, &mut room[16..end]));
+    let end = room.len() - GUARD;
+    let n = say_answer(writer::write(plan, version, &mut room[GUARD..end]));
     say_number(writer::length(plan, version));
     io::print_decimal(1, sum_of(room));
     n
@@ -130,23 +141,23 @@ fn write_twice(plan: Plan, version: u16, first: usize, room: &mut [u8]) {
     if n == 0 {
         return;
     }
-    let reading = block::read(part_of(room, 16, n));
+    let reading = block::read(part_of(room, GUARD, n));
     io::write_all(1, b" ");
     say_number(reading.number as usize);
     let again = reading.plan;
     write_once(again, version, first, room);
-    say_text(part_of(room, 16, n));
+    say_text(part_of(room, GUARD, n));
 }
 
-// One line. The room has the slice that is lent, and a guard of 16 bytes on each side of it.
+// One line. The room has the slice that is lent between its guards.
 fn run_case(given: Plan) {
     let plan = next_plan(given);
     let version = next_number().value as u16;
     let size = next_number().value;
     let first = next_byte();
-    let mut room = [0u8; 1280];
-    if size <= 1248 {
-        write_twice(plan, version, first, &mut room[..size + 32]);
+    let mut room = [0u8; SLICE_ROOM + GUARDS];
+    if size <= SLICE_ROOM {
+        write_twice(plan, version, first, &mut room[..size + GUARDS]);
         io::write_all(1, b"\n");
     }
 }
@@ -166,7 +177,7 @@ fn next_group() -> bool {
     if !len.there {
         return false;
     }
-    let mut bytes = [0u8; 4096];
+    let mut bytes = [0u8; BLOCK_ROOM];
     let reading = next_block(&mut bytes, len.value);
     let plan = reading.plan;
     run_cases(plan);

@@ -29,11 +29,11 @@ module _ (p : Plan) (version : ℕ) {a b c : ℕ} (f : a ≡ section-length vers
   pub no-block : (eqb a 0 || (eqb b 0 || eqb c 0)) ≡ true → writable p version ≡ false
   no-block e = go (writable p version) refl
     where
-      some : {c : Component} {m : ℕ} → Carried p version c → m ≡ section-length version c → eqb m 0 ≡ false
-      some {m = m} q l = ne-eqb m 0 (λ z. omega (arith, z, its-length p version q l .0, some-bytes p version q))
+      some : (k : ℕ) {c : Component} {m : ℕ} → Carried p version k c → m ≡ section-length version c → eqb m 0 ≡ false
+      some k {m = m} q l = ne-eqb m 0 (λ z. omega (arith, z, its-length p version k q l .0, some-bytes p version k q))
 
       go : (t : Bool) → writable p version ≡ t → t ≡ false
-      go true w = absurd (false≢true (rw (some (y-carried p version w) f, some (cb-carried p version w) g, some (cr-carried p version w) i) at e))
+      go true w = absurd (false≢true (rw (some 0 (y-carried p version w) f, some 1 (cb-carried p version w) g, some 2 (cr-carried p version w) i) at e))
       go false w = refl
 
   pub has-block : fitting p ≡ true → (eqb a 0 || (eqb b 0 || eqb c 0)) ≡ false → writable p version ≡ true

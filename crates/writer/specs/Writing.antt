@@ -39,10 +39,10 @@ writable p version = fitting p && (can-carry version (p .y) && (can-carry versio
 unfoldable pub block-length : Plan → ℕ → ℕ
 block-length p version = cond (writable p version) (length (block p version)) 0
 
--- every block of version 1 has 138 to 1,008 bytes, and of version 2 174 to 1,059
+-- every block of version 1 has 138 to 6,160 bytes, and of version 2 174 to 6,533
 pub record Limits (p : Plan) (version n : ℕ) : Type 0 where
   pub shortest : writable p version ≡ true → cond (eqb version 1) 138 174 ≤ n
-  pub longest : n ≤ cond (eqb version 1) 1008 1059
+  pub longest : n ≤ cond (eqb version 1) 6160 6533
 
 -- rule 7: the plan, or that it has no block of this version; rule 12: the slice is shorter than the block
 abbrev pub rules : Plan → ℕ → ℕ → List Rule

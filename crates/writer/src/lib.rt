@@ -28,8 +28,8 @@ pub fn number(answer: Writing) -> u8
     }
 }
 
-// The length of a plan's block of a version, which a slice must have to be written: 138 to 1,008 in version 1, 174 to 1,059 in
-// version 2. It is 0 where rule 7 refuses the plan, or it has no block of this version.
+// The length of a plan's block of a version, which a slice must have to be written: 138 to 6,160 in version 1, 174 to
+// 6,533 in version 2. It is 0 where rule 7 refuses the plan, or it has no block of this version.
 pub fn length(plan: Plan, version: u16) -> usize
     ensures { λ r. ⌜ r ≡ block-length plan version ⌝ }
     ensures limits { λ r. ⌜ Limits plan version r ⌝ }
@@ -49,9 +49,10 @@ pub fn length(plan: Plan, version: u16) -> usize
     24 + first + second + third + 12
 }
 
-// Writes the block of a plan in a version from the first byte of a lent slice on. Refused by rule 7, for the plan or because it has
-// no block of this version, or by rule 12, for a slice that is shorter than the block, in this order, it writes nothing; bytes
-// after the block stay. Its components are taken out of the plan once: a plan is large, and to hand it on is to copy it.
+// Writes the block of a plan in a version from the first byte of a lent slice on. Refused by rule 7, for the plan or
+// because it has no block of this version, or by rule 12, for a slice that is shorter than the block, in this order, it
+// writes nothing; bytes after the block stay. Its components are taken out of the plan once: a plan is large, and to hand
+// it on is to copy it.
 pub fn write(plan: Plan, version: u16, out: &mut [u8]) -> Writing
     ensures answers { λ r. ⌜ says r ≡ answer plan version (length (now (out .entry))) ⌝ }
     ensures writes { λ _. ⌜ now (out .exit) ≡ written plan version (now (out .entry)) ⌝ }

@@ -7,7 +7,7 @@ ghost use Rattle.writer.specs.Writing.{trailer-bytes};
 
 // The trailer behind sections of these lengths.
 pub(crate) fn put_trailer(out: &mut [u8], first: usize, second: usize, third: usize, version: u16)
-    requires { ⌜ (first ≤ 341) × ((second ≤ 341) × (third ≤ 341)) ⌝ }
+    requires { ⌜ (first ≤ 3078) × ((second ≤ 3078) × (third ≤ 3078)) ⌝ }
     requires { ⌜ 24 + first + second + third + 12 ≤ length (now out) ⌝ }
     ensures { λ _. ⌜ Inked (now (out .entry)) (24 + first + second + third) (trailer-bytes (24 + (first + (second + third))) (first + (second + third)) (second + third) third version) (now (out .exit)) (24 + first + second + third + 12) ⌝ }
 {

@@ -7,15 +7,26 @@ use Rattle.rules.proofs.is_used.Reads as is-used-promise
 use Rattle.spans.proofs.joined.Reads as joined-promise
 use Rattle.spans.proofs.look_up.Reads as look-up-promise
 use Rattle.sums.proofs.add_up.Reads as add-up-promise
+use Rattle.sums.proofs.cut_out.Reads as cut-out-promise
+use Rattle.steps.proofs.pivots_of.Reads as pivots-of-promise
+use Rattle.steps.proofs.clamp.Reads as clamp-promise
+use Rattle.steps.proofs.cut_at.Reads as cut-at-promise
+use Rattle.mmr.proofs.compose_chroma.Reads as compose-chroma-promise
+use Rattle.mmr.proofs.slice.slice_table.Reads as slice-table-promise
 use Rattle.picture.proofs.lies.Reads as lies-promise
 use Rattle.rows.proofs.look_up_rows.Reads as look-up-rows-promise
 use Rattle.rows.proofs.add_up_rows.Reads as add-up-rows-promise
 use Rattle.mapping.proofs.mapped_table.Reads as mapped-table-promise
 use Rattle.residual.proofs.residual_table.Reads as residual-table-promise
+use Rattle.residual.proofs.no_residual.Reads as no-residual-promise
 use Rattle.residual.proofs.finished_table.Reads as finished-table-promise
 use Rattle.residual.proofs.cut_numbers.Reads as cut-numbers-promise
 use Rattle.rule_seven.proofs.is_usable.Reads as is-usable-promise
 use Rattle.plan.proofs.ranges.header_fits.Reads as header-fits-promise
+use Rattle.plan.proofs.methods.most_idc.Reads as most-idc-promise
+use Rattle.plan.proofs.methods.most_order.Reads as most-order-promise
+use Rattle.plan.proofs.methods.coefficients_used.Reads as coefficients-used-promise
+use Rattle.plan.proofs.methods.integer_limit.Reads as integer-limit-promise
 use Rattle.plan.proofs.versions.is_known.Reads as is-known-promise
 use Rattle.plan.proofs.versions.pieces_carried.Reads as pieces-carried-promise
 use Rattle.plan.proofs.versions.copy_last.Reads as copy-last-promise
@@ -43,15 +54,26 @@ pub record LeavesSettled : Type 0 where
   pub joined : OneAnswer joined-promise.Post
   pub looked-up-output : OneContent look-up-promise.Post (λ c. now (c .left .1 .1 .0))
   pub added-up-output : OneContent add-up-promise.Post (λ c. now (c .left .1 .1 .1 .1 .1 .0))
+  pub cut-out : OneAnswer cut-out-promise.Post
   pub looked-up-rows : OneContent look-up-rows-promise.Post (λ c. now (c .left .1 .1 .1 .1 .0))
   pub added-up-rows : OneContent add-up-rows-promise.Post (λ c. now (c .left .1 .1 .1 .1 .1 .1 .1 .0))
   pub lies : OneAnswer lies-promise.Post
+  pub pivots-of : OneAnswer pivots-of-promise.Post
+  pub clamp : OneAnswer clamp-promise.Post
+  pub cut-at : OneAnswer cut-at-promise.Post
+  pub composed-chroma : OneContent compose-chroma-promise.Post (λ c. let tables = c .left .1 .1 .1 in now (tables .1 .1 .1 .1 .1 .0))
+  pub slice-table : OneAnswer slice-table-promise.Post
   pub mapped-table : OneAnswer mapped-table-promise.Post
   pub residual-table : OneAnswer residual-table-promise.Post
+  pub no-residual : OneAnswer no-residual-promise.Post
   pub finished-table : OneAnswer finished-table-promise.Post
   pub cut-numbers : OneAnswer cut-numbers-promise.Post
   pub is-usable : OneAnswer is-usable-promise.Post
   pub header-fits : OneAnswer header-fits-promise.Post
+  pub most-idc : OneAnswer most-idc-promise.Post
+  pub most-order : OneAnswer most-order-promise.Post
+  pub coefficients-used : OneAnswer coefficients-used-promise.Post
+  pub integer-limit : OneAnswer integer-limit-promise.Post
   pub is-known : OneAnswer is-known-promise.Post
   pub pieces-carried : OneAnswer pieces-carried-promise.Post
   pub copy-last : OneAnswer copy-last-promise.Post

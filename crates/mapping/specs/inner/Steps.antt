@@ -1,19 +1,37 @@
 -- What the private functions of the mapping ask and give, and nothing that another crate cites.
-use mathlib.Core.List.{List}
+use mathlib.Core.Path.{_≡_}
+use mathlib.Core.Bool.{true}
+use mathlib.Core.List.{List, [], _∷_}
 use Prim.Native.Nat.{ℕ, _+_, _^_, _<_, _≤_}
 use lib.IntN.{ℤ, pos, natAbs}
-use lib.ListN.{getD}
+use lib.ListN.{length, getD}
 use Rattle.runs.specs.inner.Loops.{at}
-use Rattle.standard.specs.Mapping.{pivot-idx, clamped, poly-sum, cut}
-use Rattle.plan.specs.declared.Piece.{Piece}
-use Rattle.plan.specs.Rule7.{no-piece}
+use Rattle.runs.specs.inner.Tables.{table, coded}
+use Rattle.standard.specs.Mapping.{pivot-value, pivot-idx, clamped, poly-sum, cut}
+use Rattle.plan.specs.declared.Component.{Component}
+use Rattle.plan.specs.Ranges.{most-n}
+use Rattle.plan.specs.Rule7.{pivot-places, piece-places, pieces-used, no-piece}
+use Rattle.mapping.specs.inner.Mapped.{order-by}
 
 abbrev pub coef : List ℤ → ℕ → ℤ
 coef row i = getD row i (pos 0)
 
--- the row of coefficients of piece p
-abbrev pub row-of : List Piece → ℕ → List ℤ
-row-of pieces p = getD pieces p no-piece .row
+-- the coefficients of a row that a polynomial can have, in four places
+abbrev pub kept : List ℤ → List ℤ
+kept row = coef row 0 ∷ coef row 1 ∷ coef row 2 ∷ pos 0 ∷ []
+
+-- the row of piece p, among those that are kept
+abbrev pub row-of : List (List ℤ) → ℕ → List ℤ
+row-of rows p = getD rows p []
+
+-- the orders and the rows of the pieces up to p are copied
+pub record CopiedOrders (c : Component) (orders : List ℕ) (p : ℕ) : Type 0 where
+  pub long : length orders ≡ piece-places
+  pub order : (j : ℕ) → j < p → at orders j ≡ (let q = getD (c .pieces) j no-piece in order-by (q .idc) (q .order))
+
+pub record CopiedRows (c : Component) (rows : List (List ℤ)) (p : ℕ) : Type 0 where
+  pub long : length rows ≡ piece-places
+  pub row : (j : ℕ) → j < p → row-of rows j ≡ kept (getD (c .pieces) j no-piece .row)
 
 -- a sample and a row of coefficients, in slack bounds, the same for every depth and every d
 pub record RowRanges (depth s : ℕ) (row : List ℤ) : Type 0 where
@@ -21,7 +39,21 @@ pub record RowRanges (depth s : ℕ) (row : List ℤ) : Type 0 where
   pub sample : s < 2 ^ depth
   pub coefficient : (i : ℕ) → natAbs (coef row i) ≤ 2 ^ 38
 
--- a mapped sample by pivots that are summed up and rows of always three coefficients: those that the order does not use are 0
-unfoldable pub mapped-by : ℕ → ℕ → ℕ → List ℕ → List Piece → ℕ → ℕ
-mapped-by depth d n pivots pieces s =
-    cut d (poly-sum depth (clamped (at pivots 0) (at pivots (n + 1)) s) (coef (row-of pieces (pivot-idx (at pivots) n s))) 2)
+-- the predictions of pivots and the rows of the pieces that are used, in the same bounds
+pub record ByRows (depth d n : ℕ) (preds : List ℕ) (rows : List (List ℤ)) : Type 0 where
+  pub shallow : depth ≤ 10
+  pub denominator : d ≤ 32
+  pub count : n ≤ most-n
+  pub pivot : (i : ℕ) → at preds i < 2 ^ depth
+  pub coefficient : (p i : ℕ) → p < pieces-used n → natAbs (coef (row-of rows p) i) ≤ 2 ^ 38
+
+-- a mapped sample by pivots that are summed up and rows of always three coefficients: one that the order does not use is 0
+unfoldable pub mapped-by : ℕ → ℕ → ℕ → List ℕ → List (List ℤ) → ℕ → ℕ
+mapped-by depth d n pivots rows s =
+    cut d (poly-sum depth (clamped (at pivots 0) (at pivots (n + 1)) s) (coef (row-of rows (pivot-idx (at pivots) n s))) 2)
+
+abbrev pub pivots-by : List ℕ → List ℕ
+pivots-by preds = table pivot-places (pivot-value (at preds))
+
+abbrev pub table-by : ℕ → ℕ → ℕ → List ℕ → List (List ℤ) → List ℕ
+table-by depth d n preds rows = table 1024 (coded true (2 ^ depth) (mapped-by depth d n (pivots-by preds) rows))

@@ -17,9 +17,13 @@ put-at s at bytes = cond (leb (at + length bytes) (length s)) (sets s at bytes) 
 abbrev pub from-distance : Bool → ℕ → ℤ
 from-distance below a = cond below (negsuc a) (pos a)
 
+-- how many bytes a number's integer part has
+abbrev pub integer-bytes : Bool → ℕ
+integer-bytes long = cond long 4 1
+
 -- a number with a fraction, where d leaves the fraction 4 bytes
-abbrev pub put-number : List ℕ → ℕ → ℕ → ℤ → List ℕ
-put-number s at d z = cond (leb d 32) (put-at s at (number-bytes d z)) s
+abbrev pub put-number : List ℕ → ℕ → Bool → ℕ → ℤ → List ℕ
+put-number s at long d z = cond (leb d 32) (put-at s at (number-bytes (integer-bytes long) d z)) s
 
 -- bytes were put from a place on, which they have led to the next
 pub record Inked (s : List ℕ) (at : ℕ) (bytes s' : List ℕ) (next : ℕ) : Type 0 where

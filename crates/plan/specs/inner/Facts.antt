@@ -1,14 +1,16 @@
 -- What a plan that passes rule 7 gives whoever computes with it, in slack bounds that hold for every depth and every d.
 use mathlib.Core.Path.{_≡_}
+use mathlib.Core.Bool.{true}
 use Prim.Native.Nat.{ℕ, _+_, _*_, _^_, _<_, _≤_}
 use lib.IntN.{pos, natAbs}
 use lib.ListN.{length, getD}
 use Rattle.plan.specs.declared.Header.{Header}
+use Rattle.plan.specs.declared.Piece.{Piece}
 use Rattle.plan.specs.declared.Nlq.{Nlq}
 use Rattle.plan.specs.declared.Component.{Component}
 use Rattle.plan.specs.declared.Plan.{Plan}
-use Rattle.plan.specs.Ranges.{most-columns, most-pairs, most-n, bl-depth, el-depth}
-use Rattle.plan.specs.Rule7.{pivot-places, piece-places, row-places, no-piece}
+use Rattle.plan.specs.Ranges.{most-columns, most-pairs, most-n, bl-depth, el-depth, idc-fits, order-fits, integer-limit}
+use Rattle.plan.specs.Rule7.{pivot-places, piece-places, row-places, coefficients-used, no-piece}
 
 -- the header's numbers
 pub record HeaderFacts (h : Header) : Type 0 where
@@ -33,13 +35,18 @@ pub record Sized (p : Plan) : Type 0 where
   pub cb : Arrays (p .cb)
   pub cr : Arrays (p .cr)
 
--- a component's numbers, at every index: what stands past an array's places is 0
-pub record ComponentFacts (h : Header) (c : Component) : Type 0 where
+-- the numbers of a piece of component k in any place, used or not
+pub record PieceFacts (k : ℕ) (h : Header) (q : Piece) : Type 0 where
+  pub idc : idc-fits k (q .idc) ≡ true
+  pub order : order-fits (q .idc) (q .order) ≡ true
+  pub coefficient : (i : ℕ) → i < row-places → natAbs (getD (q .row) i (pos 0)) ≤ integer-limit (q .idc) * 2 ^ h .d
+  pub unused : (i : ℕ) → coefficients-used (q .idc) (q .order) ≤ i → i < row-places → getD (q .row) i (pos 0) ≡ pos 0
+
+-- the numbers of component k, at every place
+pub record ComponentFacts (k : ℕ) (h : Header) (c : Component) : Type 0 where
   pub count : c .n ≤ most-n
-  pub pivot : (i : ℕ) → getD (c .preds) i 0 < 2 ^ bl-depth h
-  pub order : (p : ℕ) → getD (c .pieces) p no-piece .order ≤ 1
-  pub coefficient : (p i : ℕ) → natAbs (getD (getD (c .pieces) p no-piece .row) i (pos 0)) ≤ 64 * 2 ^ h .d
-  pub unused : (p : ℕ) → getD (c .pieces) p no-piece .order ≡ 0 → getD (getD (c .pieces) p no-piece .row) 2 (pos 0) ≡ pos 0
+  pub pivot : (i : ℕ) → i < pivot-places → getD (c .preds) i 0 < 2 ^ bl-depth h
+  pub piece : (p : ℕ) → p < piece-places → PieceFacts k h (getD (c .pieces) p no-piece)
 
 -- the numbers of a component's inverse quantization
 pub record NlqFacts (h : Header) (q : Nlq) : Type 0 where

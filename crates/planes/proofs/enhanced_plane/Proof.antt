@@ -1,5 +1,5 @@
--- `planes::enhanced_plane` meets its contract: the tables are those of the component. Assumes nothing.
-use mathlib.Core.Path.{ap₂, _∙_}
+-- `planes::enhanced_plane` meets its contract. Assumes nothing.
+use mathlib.Core.Path.{ap, _∙_}
 use mathlib.Core.List.{List}
 use Prim.Native.Nat.{ℕ}
 use borrow.Author.Needs.{needs}
@@ -10,14 +10,11 @@ use Rattle.planes.proofs.enhanced_plane.Tie as tie
 returns : tie.Need-returns
 returns c =
     let s : tie.Start = search needs in
-    let m : tie.After-mapped-table = search needs in
     let r : tie.After-residual-table = search needs in
     let l : tie.After-add-up-rows = search needs in
     let a = s .args in
     l .add-up-rows .ensures
-    ∙ ap₂ (λ (t u : List ℕ). added-up-rows t u (a .cut) (a .p) (a .r) (a .base .now) (a .enhancement .now) (a .output .now)) (m .mapped-table .ensures) (r .residual-table .ensures)
+    ∙ ap (λ (t : List ℕ). added-up-rows (a .mapped .now) t (a .cut) (a .p) (a .r) (a .base .now) (a .enhancement .now) (a .output .now)) (r .residual-table .ensures)
 
 pub enhanced-plane-spec : {M : Type 1} → statement M
-enhanced-plane-spec =
-    tie.close
-    (tie.spec (λ c κs. search needs) (λ c κs. search needs) (λ c κs. search needs) (λ c. search needs) returns)
+enhanced-plane-spec = tie.close (tie.spec (λ c κs. search needs) (λ c κs. search needs) (λ c. search needs) returns)

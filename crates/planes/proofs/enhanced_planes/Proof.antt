@@ -1,35 +1,76 @@
--- `planes::enhanced_planes` meets its contract: the numbers of the cut are the header's. Assumes nothing.
-use mathlib.Core.Path.{ap, _∙_}
+-- `planes::enhanced_planes` meets its contract: by tables, or chroma by MMR. Assumes nothing.
+use mathlib.Core.Path.{_≡_, ap, _∙_}
+use mathlib.Core.Bool.{_&&_}
 use borrow.Author.Needs.{needs}
 use Rattle.picture.specs.inner.Planes.{planes}
-use Rattle.planes.specs.inner.ByTables.{enhanced-plane}
-use Rattle.planes.proofs.Three.{in-order}
+use Rattle.rules.specs.Rules.{extent}
+use Rattle.planes.specs.inner.ByTables.{enhanced-plane, by-tables, enhanced-picture}
+use Rattle.planes.proofs.Three.{in-order, added-by, enhanced-over, both-map}
 use Rattle.planes.proofs.enhanced_planes.Statement.{statement}
 use Rattle.planes.proofs.enhanced_planes.Tie as tie
 
 -- the way back from a place, in steps
-abbrev placed : tie.After-enhanced-plane → tie.After-planes-of
-placed c = search needs
+abbrev Red : Type 0
+Red = tie.After-mapped-table3
 
-abbrev tabled : tie.After-enhanced-plane → tie.After-cut-numbers
-tabled c = search needs
+abbrev blue : tie.After-mapped-table3 → tie.After-mapped-table2
+blue c = search needs
+
+abbrev luma : tie.After-mapped-table2 → tie.After-mapped-table
+luma c = search needs
+
+abbrev cut : tie.After-mapped-table → tie.After-cut-numbers
+cut c = search needs
+
+abbrev placed : tie.After-cut-numbers → tie.After-planes-of
+placed c = search needs
 
 abbrev start : tie.After-planes-of → tie.Start
 start c = search needs
 
+abbrev back : Red → tie.After-planes-of
+back c = placed (cut (luma (blue c)))
+
+-- what the calls gave
+planes-are : (c : Red) → back c .planes-of .result ≡ planes (extent (start (back c) .args .plan .header))
+planes-are c = let q = back c in let e : tie.After-extent-of = search needs in q .planes-of .ensures ∙ ap planes (e .extent-of .ensures)
+
+tested : (c : Red) → by-tables (start (back c) .args .plan) ≡ (blue c .mapped-table2 .result .maps && c .mapped-table3 .result .maps)
+tested c = both-map (start (back c) .args .plan) _ _ (blue c .mapped-table2 .ensures) (c .mapped-table3 .ensures)
+
 returns : tie.Need-returns
+unfolding enhanced-picture
 returns c =
     let three : tie.After-enhanced-plane3 = search needs in
     let two : tie.After-enhanced-plane2 = search needs in
     let one : tie.After-enhanced-plane = search needs in
-    let q = placed one in
-    let e : tie.After-extent-of = search needs in
+    let t : tie.Then1 = search needs in
+    let red : Red = search needs in
+    let q = back red in
     let a = start q .args in
-    let cut = tabled one .cut-numbers .ensures in
     let h = a .plan .header in
-    in-order (a .plan) (enhanced-plane h (a .r) (a .base .now) (a .enhancement .now)) (q .planes-of .result) (a .output .now) _ _ _
-    (q .planes-of .ensures ∙ ap planes (e .extent-of .ensures))
-    (rw cut at (one .enhanced-plane .ensures)) (rw cut at (two .enhanced-plane2 .ensures)) (rw cut at (three .enhanced-plane3 .ensures))
+    let k = cut (luma (blue red)) .cut-numbers .ensures in
+    rw (tested red ∙ t .if1 .taken)
+    (in-order (a .plan) (enhanced-plane h (a .r) (a .base .now) (a .enhancement .now)) (q .planes-of .result) (a .output .now) _ _ _ (planes-are red)
+    (added-by h (a .plan .y) _ _ _ _ _ _ _ _ (one .enhanced-plane .ensures) (luma (blue red) .mapped-table .ensures) k)
+    (added-by h (a .plan .cb) _ _ _ _ _ _ _ _ (two .enhanced-plane2 .ensures) (blue red .mapped-table2 .ensures) k)
+    (added-by h (a .plan .cr) _ _ _ _ _ _ _ _ (three .enhanced-plane3 .ensures) (red .mapped-table3 .ensures) k))
+
+returns-2 : tie.Need-returns-2
+unfolding enhanced-picture
+returns-2 c =
+    let w : tie.After-enhanced-chroma = search needs in
+    let one : tie.After-enhanced-plane4 = search needs in
+    let t : tie.Else1 = search needs in
+    let red : Red = search needs in
+    let q = back red in
+    let a = start q .args in
+    let h = a .plan .header in
+    let k = cut (luma (blue red)) .cut-numbers .ensures in
+    rw (tested red ∙ t .if1 .left)
+    (enhanced-over (a .plan) (a .r) (q .planes-of .result) (a .base .now) (a .enhancement .now) (a .output .now) _ _ _ (planes-are red) k
+    (w .enhanced-chroma .ensures)
+    (added-by h (a .plan .y) _ _ _ _ _ _ _ _ (one .enhanced-plane4 .ensures) (luma (blue red) .mapped-table .ensures) k))
 
 pub enhanced-planes-spec : {M : Type 1} → statement M
 enhanced-planes-spec =
@@ -41,5 +82,12 @@ enhanced-planes-spec =
     (λ c κs. search needs)
     (λ c κs. search needs)
     (λ c κs. search needs)
+    (λ c κs. search needs)
+    (λ c κs. search needs)
+    (λ c κs. search needs)
     (λ c. search needs)
-    returns)
+    returns
+    (λ c κs. search needs)
+    (λ c κs. search needs)
+    (λ c. search needs)
+    returns-2)

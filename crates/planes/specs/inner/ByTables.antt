@@ -1,4 +1,5 @@
--- The planes of a picture by the tables of their components: row pairs that are looked up, or added up.
+-- The planes of a picture: row pairs that are looked up, or added up, by the tables of their components, and chroma by MMR.
+use mathlib.Core.Bool.{Bool, _&&_, cond}
 use mathlib.Core.List.{List}
 use Prim.Native.Nat.{ℕ}
 use Rattle.picture.specs.declared.Plane.{Plane}
@@ -7,8 +8,10 @@ use Rattle.plan.specs.declared.Header.{Header}
 use Rattle.plan.specs.declared.Component.{Component}
 use Rattle.plan.specs.declared.Plan.{Plan}
 use Rattle.rules.specs.Rules.{extent}
-use Rattle.mapping.specs.inner.Mapped.{mapped-table}
-use Rattle.residual.specs.inner.Tables.{residual-table, finished-table, cut-numbers}
+use Rattle.sums.specs.declared.Cut.{Cut}
+use Rattle.mapping.specs.inner.Mapped.{can-map, mapped-table}
+use Rattle.residual.specs.inner.Tables.{residual-table, no-residual, finished-table, cut-numbers}
+use Rattle.mmr.specs.inner.Chroma.{chroma-after}
 use Rattle.rows.specs.declared.Rows.{Rows}
 use Rattle.rows.specs.inner.Rows.{looked-up-rows, added-up-rows}
 
@@ -24,3 +27,34 @@ abbrev pub three : Plan → (Component → Plane → List ℕ → List ℕ) → 
 three p plane output =
     let e = extent (p .header) in
     plane (p .cr) (cr-plane e) (plane (p .cb) (cb-plane e) (plane (p .y) (luma-plane e) output))
+
+-- both chroma components go by tables
+abbrev pub by-tables : Plan → Bool
+by-tables p = can-map (p .header) (p .cb) && can-map (p .header) (p .cr)
+
+-- chroma by MMR: without residual the enhancement is not looked at, and each code of it has none
+abbrev pub plain-chroma : Plan → Rows → List ℕ → List ℕ → List ℕ
+plain-chroma p r base output =
+    let none = no-residual (p .header) in
+    chroma-after p (r .first) (r .last) none none (cut-numbers (p .header)) base base output
+
+abbrev pub enhanced-chroma : Plan → Cut → Rows → List ℕ → List ℕ → List ℕ → List ℕ
+enhanced-chroma p cut r base enhancement output =
+    chroma-after p (r .first) (r .last) (residual-table (p .header) (p .cb .nlq)) (residual-table (p .header) (p .cr .nlq)) cut base enhancement output
+
+-- and luma by its table
+abbrev pub plain-mixed : Plan → Rows → List ℕ → List ℕ → List ℕ
+plain-mixed p r base output = let h = p .header in plain-plane h r base (p .y) (luma-plane (extent h)) (plain-chroma p r base output)
+
+abbrev pub enhanced-mixed : Plan → Rows → List ℕ → List ℕ → List ℕ → List ℕ
+enhanced-mixed p r base enhancement output =
+    let h = p .header in
+    enhanced-plane h r base enhancement (p .y) (luma-plane (extent h)) (enhanced-chroma p (cut-numbers h) r base enhancement output)
+
+-- the three planes of a picture
+unfoldable pub plain-picture : Plan → Rows → List ℕ → List ℕ → List ℕ
+plain-picture p r base output = cond (by-tables p) (three p (plain-plane (p .header) r base) output) (plain-mixed p r base output)
+
+unfoldable pub enhanced-picture : Plan → Rows → List ℕ → List ℕ → List ℕ → List ℕ
+enhanced-picture p r base enhancement output =
+    cond (by-tables p) (three p (enhanced-plane (p .header) r base enhancement) output) (enhanced-mixed p r base enhancement output)

@@ -3,6 +3,7 @@ use mathlib.Core.Bool.{_&&_, cond}
 use mathlib.Core.List.{List}
 use Prim.Native.Nat.{ℕ, _-_, _*_, _^_}
 use lib.IntN.{pos}
+use lib.ListN.{replicate}
 use Rattle.runs.specs.inner.Loops.{at}
 use Rattle.runs.specs.inner.Tables.{table, coded}
 use Rattle.standard.specs.Residual.{residual, reconstructed}
@@ -19,6 +20,10 @@ unfoldable pub residual-table : Header → Nlq → List ℕ
 residual-table h q =
     table 1024
     (coded (header-fits h && nlq-fits h q) (2 ^ el-depth h) (λ e. raised (hdr-depth h) (residual (el-depth h) (h .d) (quantization q) e)))
+
+-- the raised residual of no residual
+unfoldable pub no-residual : Header → List ℕ
+no-residual h = replicate 1024 (cond (header-fits h) (raised (hdr-depth h) (pos 0)) 0)
 
 -- the HDR sample of every mapped sample of a table, without residual
 unfoldable pub finished-code : Header → List ℕ → ℕ → ℕ

@@ -1,52 +1,27 @@
--- `rule_seven::passes` meets its contract: what follows the header's test leans on the facts that it gives. Assumes nothing.
-use mathlib.Core.Path.{_≡_, sym, _∙_}
-use mathlib.Core.Bool.{true}
+-- `rule_seven::passes` meets its contract: the header is tested with each component. Assumes nothing.
+use mathlib.Core.Path.{_≡_, refl}
+use mathlib.Core.Bool.{Bool, true, false, _&&_}
 use borrow.Author.Needs.{needs}
-use borrow.Author.Tests.{not-true, not-false}
+use Rattle.plan.specs.declared.Plan.{Plan}
 use Rattle.plan.specs.Ranges.{header-fits}
-use Rattle.plan.specs.Rule7.{fitting}
-use Rattle.plan.specs.inner.Facts.{HeaderFacts}
-use Rattle.plan.proofs.Facts.{header-kept}
+use Rattle.plan.specs.Rule7.{usable, component-fits, fitting}
 use Rattle.rule_seven.proofs.passes.Statement.{statement}
 use Rattle.rule_seven.proofs.passes.Tie as tie
 
-header-fits-requires : tie.Need-header-fits-requires
-header-fits-requires c κs = search needs
+each : (p : Plan) → let h = p .header in (usable 0 h (p .y) && (usable 1 h (p .cb) && usable 2 h (p .cr))) ≡ fitting p
+unfolding fitting
+each p = once (header-fits (p .header)) (component-fits 0 (p .header) (p .y)) (component-fits 1 (p .header) (p .cb)) (component-fits 2 (p .header) (p .cr))
+  where
+    once : (h y cb cr : Bool) → ((h && y) && ((h && cb) && (h && cr))) ≡ (h && (y && (cb && cr)))
+    once true y cb cr = refl
+    once false y cb cr = refl
 
 returns : tie.Need-returns
-unfolding fitting
-returns c = rw (sym (c .before .header-fits .ensures) ∙ not-true _ (c .if1 .taken))
-
-passed : (e : tie.Else1) → header-fits (e .before .before .before .args .plan .header) ≡ true
-passed e = sym (e .before .header-fits .ensures) ∙ not-false _ (e .if1 .left)
-
-facts : (e : tie.Else1) → HeaderFacts (e .before .before .before .args .plan .header)
-facts e = header-kept _ (passed e)
-
-component-fits-requires : tie.Need-component-fits-requires
-component-fits-requires c κs = let e : tie.Else1 = search needs in facts e
-
-component-fits-requires-2 : tie.Need-component-fits-requires-2
-component-fits-requires-2 c κs = let e : tie.Else1 = search needs in facts e
-
-component-fits-requires-3 : tie.Need-component-fits-requires-3
-component-fits-requires-3 c κs = let e : tie.Else1 = search needs in facts e
-
-returns-2 : tie.Need-returns-2
-unfolding fitting
-returns-2 c =
-    let e : tie.Else1 = search needs in
-    let y : tie.After-component-fits = search needs in
-    let cb : tie.After-component-fits2 = search needs in
-    rw (passed e, y .component-fits .ensures, cb .component-fits2 .ensures, c .component-fits3 .ensures)
+returns c =
+    let s : tie.Start = search needs in
+    let y : tie.After-is-usable = search needs in
+    let cb : tie.After-is-usable2 = search needs in
+    rw (y .is-usable .ensures, cb .is-usable2 .ensures, c .is-usable3 .ensures) (each (s .args .plan))
 
 pub passes-spec : {M : Type 1} → statement M
-passes-spec =
-    tie.close
-    (tie.spec
-    header-fits-requires
-    returns
-    component-fits-requires
-    component-fits-requires-2
-    component-fits-requires-3
-    returns-2)
+passes-spec = tie.close (tie.spec (λ c κs. search needs) (λ c κs. search needs) (λ c κs. search needs) returns)

@@ -4,6 +4,7 @@ use Prim.Native.Nat.{_+_, _-_, _≤_, _<_}
 use native.Mathlib.Omega.{arith}
 use borrow.Author.Needs.{needs}
 use lib.ListN.{length, getD}
+use Rattle.plan.specs.Ranges.{most-n}
 use Rattle.plan.specs.Rule7.{no-piece}
 use Rattle.pen.proofs.Inking.{Turns, begun, room, turned, ended, same-length}
 use Rattle.section_writer.specs.Section.{piece-bytes, section-bytes}
@@ -53,7 +54,7 @@ given c = start (to-few (to-carried c))
 deep : (e : Few) → start e .args .d ≤ 32
 deep e = omega arith
 
-few : (e : Few) → start e .args .t5 .n ≤ 15
+few : (e : Few) → start e .args .t5 .n ≤ most-n
 few e = omega arith
 
 -- the length that the first loop has added up
@@ -106,7 +107,7 @@ returns-4 c = let z : Sized = search needs in unfitting z (omega arith)
 -- what the tests have shown
 record Passed (st : Start) : Type 0 where
   deep : st .args .d ≤ 32
-  few : st .args .t5 .n ≤ 15
+  few : st .args .t5 .n ≤ most-n
   fits : st .args .at + length (section-bytes (st .args .version) (st .args .d) (st .args .t5)) ≤ length (st .args .out .now)
 
 passed : (c : tie.Else4 Inv-loop μ-loop Inv-loop2 μ-loop2) → let z : Sized = search needs in Passed (given z)
@@ -194,6 +195,8 @@ put-section-spec =
     returns-2
     (λ c κs. search needs) (λ c κs. search needs)
     loop-holds
+    (λ c. search needs)
+    (λ c. let m : Carried = search needs in omega (arith, m .pieces-carried .ensures .1, few (to-few m)))
     (λ c. search needs)
     (λ c. let m : Carried = search needs in omega (arith, m .pieces-carried .ensures .1, few (to-few m)))
     (λ c κs. search needs)

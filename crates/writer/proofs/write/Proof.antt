@@ -114,7 +114,7 @@ put-trailer-requires c κs =
     let z = to-sizes e in
     let p = given z .args .plan in
     let n = given z .args .version in (
-      (its-length p n (y-carried p n (writes e)) (first z) .1, (its-length p n (cb-carried p n (writes e)) (second z) .1, its-length p n (cr-carried p n (writes e)) (third z) .1)),
+      (its-length p n 0 (y-carried p n (writes e)) (first z) .1, (its-length p n 1 (cb-carried p n (writes e)) (second z) .1, its-length p n 2 (cr-carried p n (writes e)) (third z) .1)),
       trailer-room p n (writes e) (first z) (second z) (third z) (fits h) (headed h) (to-u (to-v w) .put-section .ensures) (to-v w .put-section2 .ensures) (w .put-section3 .ensures),
     )
 

@@ -13,7 +13,7 @@ returns : tie.Need-returns
 returns c =
     let t : tie.Then1 = search needs in
     let st : tie.Start = search needs in
-    rw (t .if1 .taken) (c .coefficient-fits .ensures ∙ ap (coefficient-fits (st .args .h)) (toZ-ofZ (st .fits .z)))
+    rw (t .if1 .taken) (c .coefficient-fits .ensures ∙ ap (coefficient-fits (st .args .h) (st .args .idc)) (toZ-ofZ (st .fits .z)))
 
 returns-2 : tie.Need-returns-2
 returns-2 c = rw (c .if1 .left) (zero-test (c .before .args .z) (c .before .fits .z))

@@ -3,20 +3,14 @@ use Rattle.plan.specs.Rule7.{piece-fits}
 use Rattle.rule_seven.proofs.places.piece_fits.Statement.{statement}
 use Rattle.rule_seven.proofs.places.piece_fits.Tie as tie
 
-cast-row-fits : tie.Need-cast-row-fits
-cast-row-fits c = search needs
-
-add-row-fits : tie.Need-add-row-fits
-add-row-fits c = search needs
-
-row-fits-requires : tie.Need-row-fits-requires
-row-fits-requires c κs = search needs
-
 returns : tie.Need-returns
 unfolding piece-fits
 returns c =
-    let a : tie.After-row-fits = search needs in
-    rw (a .row-fits .ensures)
+    let u : tie.After-coefficients-used = search needs in
+    let f : tie.After-row-fits = search needs in
+    let i : tie.After-most-idc = search needs in
+    let o : tie.After-most-order = search needs in
+    rw (i .most-idc .ensures, o .most-order .ensures, f .row-fits .ensures, u .coefficients-used .ensures .0)
 
 pub piece-fits-spec : {M : Type 1} → statement M
-piece-fits-spec = tie.close (tie.spec cast-row-fits add-row-fits row-fits-requires returns)
+piece-fits-spec = tie.close (tie.spec (λ c κs. search needs) (λ c κs. search needs) (λ c κs. search needs) (λ c κs. search needs) returns)

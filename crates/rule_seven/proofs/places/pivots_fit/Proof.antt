@@ -6,22 +6,16 @@ use lib.ListN.{getD}
 use native.Mathlib.Omega.{arith}
 use borrow.Author.Needs.{needs}
 use Rattle.plan.specs.Ranges.{pivot-fits}
-use Rattle.plan.specs.Rule7.{every, pivots-fit}
+use Rattle.plan.specs.Rule7.{every, pivot-places}
 use Rattle.plan.proofs.Counting.{none, more, ended}
 use Rattle.rule_seven.proofs.places.pivots_fit.Statement.{statement}
 use Rattle.rule_seven.proofs.places.pivots_fit.Tie as tie
 
 abbrev Inv-loop : tie.InvT-loop
-Inv-loop h used preds fit₀ i₀ fit i = (i ≤ 17) × (fit ≡ every i (λ j. cond (ltb j used) (pivot-fits h (getD preds j 0)) (eqb (getD preds j 0) 0)))
+Inv-loop h used preds fit₀ i₀ fit i = (i ≤ pivot-places) × (fit ≡ every i (λ j. cond (ltb j used) (pivot-fits h (getD preds j 0)) (eqb (getD preds j 0) 0)))
 
 abbrev μ-loop : tie.MeasureT-loop
-μ-loop h used preds fit₀ i₀ fit i = 17 - i
-
-cast-used : tie.Need-cast-used Inv-loop μ-loop
-cast-used c = search needs
-
-add-used : tie.Need-add-used Inv-loop μ-loop
-add-used c = search needs
+μ-loop h used preds fit₀ i₀ fit i = pivot-places - i
 
 loop-holds : tie.Need-loop-holds Inv-loop μ-loop
 loop-holds c = (omega arith, none _)
@@ -47,7 +41,6 @@ loop-again c =
     (omega arith, more _ (lp .loop .inv .1) (c .pivot-place .ensures))
 
 returns : tie.Need-returns Inv-loop μ-loop
-unfolding pivots-fit
 returns c =
     let lp : tie.At-loop Inv-loop μ-loop = search needs in
     ended _ (lp .loop .inv .0) (c .loop-test .left) (lp .loop .inv .1)
@@ -58,8 +51,6 @@ pivots-fit-spec =
     (tie.spec
     Inv-loop
     μ-loop
-    cast-used
-    add-used
     loop-holds
     mul-pivot-place
     array-read-pivot-place

@@ -1,49 +1,47 @@
+-- `rule_seven::places::row_fits` meets its contract: the tests so far are joined. Assumes nothing.
+use mathlib.Core.Path.{_≡_, ap, _∙_}
+use mathlib.Core.Bool.{cond}
+use Prim.Native.Nat.{_≤_, _-_}
+use lib.Dec.{ltb}
+use lib.IntN.{pos}
+use lib.ListN.{getD}
+use native.Mathlib.Omega.{arith}
 use borrow.Author.Needs.{needs}
-use Rattle.plan.specs.Rule7.{every, row-fits}
+use Rattle.plan.specs.Ranges.{coefficient-fits}
+use Rattle.plan.specs.Rule7.{every, row-places, is-zero, row-fits}
+use Rattle.plan.proofs.Counting.{none, more, ended}
 use Rattle.plan.proofs.Testing.{back}
 use Rattle.rule_seven.proofs.places.row_fits.Statement.{statement}
 use Rattle.rule_seven.proofs.places.row_fits.Tie as tie
 
-array-copy-out-coefficient-place : tie.Need-array-copy-out-coefficient-place
-array-copy-out-coefficient-place c = search needs
+abbrev Inv-loop : tie.InvT-loop
+Inv-loop h idc used row fit₀ i₀ fit i = (i ≤ row-places) × (fit ≡ every i (λ j. cond (ltb j used) (coefficient-fits h idc (getD row j (pos 0))) (is-zero (getD row j (pos 0)))))
 
-coefficient-place-requires : tie.Need-coefficient-place-requires
-coefficient-place-requires c κs = search needs
+abbrev μ-loop : tie.MeasureT-loop
+μ-loop h idc used row fit₀ i₀ fit i = row-places - i
 
-array-copy-out-coefficient-place-2 : tie.Need-array-copy-out-coefficient-place-2
-array-copy-out-coefficient-place-2 c = search needs
+loop-again : tie.Need-loop-again Inv-loop μ-loop
+loop-again c =
+    let lp : tie.At-loop Inv-loop μ-loop = search needs in
+    (omega arith, more _ (lp .loop .inv .1) (rw (back (c .before .coefficient-place-arg .given)) at (c .coefficient-place .ensures)))
 
-coefficient-place-requires-2 : tie.Need-coefficient-place-requires-2
-coefficient-place-requires-2 c κs = search needs
-
-array-copy-out-coefficient-place-3 : tie.Need-array-copy-out-coefficient-place-3
-array-copy-out-coefficient-place-3 c = search needs
-
-coefficient-place-requires-3 : tie.Need-coefficient-place-requires-3
-coefficient-place-requires-3 c κs = search needs
-
-returns : tie.Need-returns
-unfolding row-fits every
+returns : tie.Need-returns Inv-loop μ-loop
+unfolding row-fits
 returns c =
-    let a : tie.After-coefficient-place = search needs in
-    let b : tie.After-coefficient-place2 = search needs in
-    rw (
-      a .coefficient-place .ensures,
-      b .coefficient-place2 .ensures,
-      c .coefficient-place3 .ensures,
-      back (a .before .coefficient-place-arg .given),
-      back (b .before .coefficient-place-arg2 .given),
-      back (c .before .coefficient-place-arg3 .given),
-    )
+    let lp : tie.At-loop Inv-loop μ-loop = search needs in
+    ended _ (lp .loop .inv .0) (c .loop-test .left) (lp .loop .inv .1)
 
 pub row-fits-spec : {M : Type 1} → statement M
 row-fits-spec =
     tie.close
     (tie.spec
-    array-copy-out-coefficient-place
-    coefficient-place-requires
-    array-copy-out-coefficient-place-2
-    coefficient-place-requires-2
-    array-copy-out-coefficient-place-3
-    coefficient-place-requires-3
+    Inv-loop
+    μ-loop
+    (λ c. (omega arith, none _))
+    (λ c. search needs)
+    (λ c. search needs)
+    (λ c κs. search needs)
+    (λ c. search needs)
+    (λ c. search needs)
+    loop-again
     returns)

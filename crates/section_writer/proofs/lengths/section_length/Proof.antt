@@ -4,6 +4,7 @@ use Prim.Native.Nat.{_-_, _≤_}
 use native.Mathlib.Omega.{arith}
 use borrow.Author.Needs.{needs}
 use borrow.Author.Tests.{not-true, not-false}
+use Rattle.plan.specs.Ranges.{most-n}
 use Rattle.section_writer.proofs.Sizes.{Counted, none-counted, one-counted, all-counted, too-many, not-all, worked-out}
 use Rattle.section_writer.proofs.lengths.section_length.Statement.{statement}
 use Rattle.section_writer.proofs.lengths.section_length.Tie as tie
@@ -24,7 +25,7 @@ to-else c = search needs
 abbrev to-start : tie.Else2 Inv-loop μ-loop → tie.Start Inv-loop μ-loop
 to-start c = search needs
 
-few : (e : tie.Else2 Inv-loop μ-loop) → to-start e .args .t2 .n ≤ 15
+few : (e : tie.Else2 Inv-loop μ-loop) → to-start e .args .t2 .n ≤ most-n
 few e = omega arith
 
 returns : tie.Need-returns Inv-loop μ-loop
@@ -78,7 +79,7 @@ section-length-spec =
     returns-2
     (λ c κs. search needs) (λ c κs. search needs)
     loop-holds
-    (λ c. search needs) (λ c. search needs) (λ c κs. search needs)
+    (λ c. search needs) (λ c. search needs) (λ c. search needs) (λ c. search needs) (λ c κs. search needs)
     add-size
     (λ c. omega arith)
     (λ c. omega arith)

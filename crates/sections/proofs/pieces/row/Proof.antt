@@ -14,10 +14,10 @@ use Rattle.sections.proofs.pieces.row.Statement.{statement}
 use Rattle.sections.proofs.pieces.row.Tie as tie
 
 abbrev Inv-loop : tie.InvT-loop
-Inv-loop s h k p count list₀ next₀ i₀ list next i = Filling s (coefficient h k p) count next₀ next i list (from s next₀ (filled row-places (pos 0) count (coefficient h k p)))
+Inv-loop s h k p idc count list₀ next₀ i₀ list next i = Filling s (coefficient h k p idc) count next₀ next i list (from s next₀ (filled row-places (pos 0) count (coefficient h k p idc)))
 
 abbrev μ-loop : tie.MeasureT-loop
-μ-loop s h k p count list₀ next₀ i₀ list next i = count - i
+μ-loop s h k p idc count list₀ next₀ i₀ list next i = count - i
 
 loop-again : tie.Need-loop-again Inv-loop μ-loop
 loop-again c =

@@ -1,0 +1,17 @@
+pub mod Ring
+pub mod Apart
+pub mod Sizes
+pub mod Parts
+pub mod Beside
+pub mod Codes
+pub mod Within
+pub mod Two
+pub mod Pairs
+pub mod Prepared
+pub mod Whole
+pub mod Meaning
+pub mod Powers
+pub mod Listing
+pub mod Meeting
+pub mod ByKind
+pub mod Slicing

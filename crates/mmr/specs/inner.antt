@@ -1,0 +1,9 @@
+pub mod Apart
+pub mod Terms
+pub mod Luma
+pub mod Steps
+pub mod Columns
+pub mod Ready
+pub mod Rows
+pub mod Chroma
+pub mod Slice

@@ -1,0 +1,16 @@
+-- `sums::cut_out` meets its contract. Assumes nothing.
+use borrow.Author.Needs.{needs}
+use mathlib.Core.Path.{ap, _∙_}
+use Rattle.sums.specs.inner.Sums.{lower-by}
+use Rattle.sums.proofs.cut_out.Statement.{statement}
+use Rattle.sums.proofs.cut_out.Tie as tie
+
+returns : tie.Need-returns
+unfolding lower-by
+returns c =
+    let s : tie.Start = search needs in
+    let u : tie.After-sixteenth-of = search needs in
+    c .lower .ensures ∙ ap (lower-by (s .args .cut)) (u .sixteenth-of .ensures)
+
+pub cut-out-spec : {M : Type 1} → statement M
+cut-out-spec = tie.close (tie.spec (λ c κs. search needs) (λ c κs. search needs) returns)
