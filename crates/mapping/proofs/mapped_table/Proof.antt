@@ -71,9 +71,7 @@ mapped-table-spec =
     (λ c κs. search needs)
     (λ c κs. search needs)
     returns
-    (λ c. search needs)
-    (λ c κs. search needs)
-    (λ c κs. search needs)
+    (λ c. search needs) (λ c κs. search needs) (λ c κs. search needs)
     (λ c κs. let e : tie.Else1 = search needs in few e)
     (λ c κs. search needs)
     returns-2

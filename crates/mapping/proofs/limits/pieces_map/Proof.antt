@@ -36,10 +36,7 @@ pieces-map-spec =
     (λ c. (omega arith, none _))
     (λ c. omega arith)
     (λ c. omega arith)
-    (λ c. search needs)
-    (λ c. search needs)
-    (λ c κs. search needs)
-    (λ c. search needs)
+    (λ c. search needs) (λ c. search needs) (λ c κs. search needs) (λ c. search needs)
     (λ c. omega arith)
     loop-again
     returns)

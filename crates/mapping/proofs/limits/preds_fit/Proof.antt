@@ -36,10 +36,6 @@ preds-fit-spec =
     μ-loop
     (λ c. search needs)
     (λ c. (omega arith, none _))
-    (λ c. search needs)
-    (λ c. search needs)
-    (λ c. search needs)
-    (λ c. search needs)
-    (λ c. search needs)
+    (λ c. search needs) (λ c. search needs) (λ c. search needs) (λ c. search needs) (λ c. search needs)
     loop-again
     returns)

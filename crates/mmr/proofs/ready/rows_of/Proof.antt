@@ -32,11 +32,7 @@ rows-of-spec =
     Inv-loop
     μ-loop
     (λ c. (omega arith, rows-none _ refl))
-    (λ c. search needs)
-    (λ c. search needs)
-    (λ c. search needs)
-    (λ c. search needs)
-    (λ c. search needs)
+    (λ c. search needs) (λ c. search needs) (λ c. search needs) (λ c. search needs) (λ c. search needs)
     (λ c. omega arith)
     loop-again
     returns)

@@ -40,8 +40,6 @@ slice-at-spec =
     (λ c κs. search needs)
     (λ c κs. search needs)
     (λ c κs. let st : tie.Start = search needs in st .pre .1 .few)
-    (λ c. search needs)
-    (λ c. search needs)
-    (λ c. search needs)
+    (λ c. search needs) (λ c. search needs) (λ c. search needs)
     step-by-value-requires
     returns)
