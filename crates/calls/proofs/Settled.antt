@@ -92,6 +92,7 @@ leaves-settled =
       slice-table = λ κs a r r' s s' p q. p ∙ sym q;
       mapped-table = λ κs a r r' s s' p q. p ∙ sym q;
       residual-table = λ κs a r r' s s' p q. p ∙ sym q;
+      residual-pair = λ κs a r r' s s' p q. p ∙ sym q;
       no-residual = λ κs a r r' s s' p q. p ∙ sym q;
       finished-table = λ κs a r r' s s' p q. p ∙ sym q;
       cut-numbers = λ κs a r r' s s' p q. p ∙ sym q;

@@ -10,6 +10,7 @@ use plan::Plan;
 use residual::cut_numbers;
 use residual::finished_table;
 use residual::no_residual;
+use residual::residual_pair;
 use residual::residual_table;
 use rows::Rows;
 use rows::add_up_rows;
@@ -64,8 +65,9 @@ fn enhanced_chroma(
 )
     ensures { λ _. ⌜ now (output .exit) ≡ enhanced-chroma plan cut r (now (base .entry)) (now (enhancement .entry)) (now (output .entry)) ⌝ }
 {
-    let blue = residual_table(plan.header, plan.cb.nlq);
-    let red = residual_table(plan.header, plan.cr.nlq);
+    let raised = residual_pair(plan.header, plan.cb.nlq, plan.cr.nlq);
+    let blue = raised.first;
+    let red = raised.second;
     compose_chroma(
         plan,
         r.first,

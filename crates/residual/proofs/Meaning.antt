@@ -1,5 +1,5 @@
 -- What stands in the three tables. Assumes nothing.
-use mathlib.Core.Path.{_≡_, _∙_}
+use mathlib.Core.Path.{_≡_, refl, _∙_}
 use mathlib.Core.Bool.{true, false, _&&_}
 use mathlib.Core.List.{List}
 use Prim.Native.Nat.{ℕ, _+_, _-_, _/_, _%_, _<_, _≤_, _^_}
@@ -20,7 +20,7 @@ use Rattle.plan.proofs.Facts.{header-kept, nlq-facts}
 use Rattle.plan.proofs.Truths.{both}
 use Rattle.residual.specs.inner.Raising.{raised, lowered}
 use Rattle.sums.specs.inner.Sums.{lower-by, cut-of}
-use Rattle.residual.specs.inner.Tables.{residual-table, finished-code, finished-table, cut-numbers}
+use Rattle.residual.specs.inner.Tables.{residual-table, pair, residual-pair, finished-code, finished-table, cut-numbers}
 use Rattle.residual.proofs.Raising.{lowered-raised, raised-less}
 
 -- for whoever looks an enhancement sample up
@@ -30,6 +30,11 @@ raised-found h q u e b =
     let f = header-kept h (both (header-fits h) _ u .0) in
     let k : e < 1024 = lt-of-lt-of-le b (pow-mono {j = 10} (omega (arith, f .base-depth, f .same-depth))) in
     rw (mod-eq-of-lt k, at-table 1024 _ e k) (coded-in (2 ^ el-depth h) _ e u b)
+
+-- where both quantizations can be computed with, the tables of two are those of each
+pub pair-found : (h : Header) (a b : Nlq) → (header-fits h && nlq-fits h a) ≡ true → (header-fits h && nlq-fits h b) ≡ true → residual-pair h a b ≡ pair (residual-table h a) (residual-table h b)
+unfolding residual-table
+pair-found h a b u v = rw (u, v) refl
 
 -- and what it is
 pub residual-small : (h : Header) (q : Nlq) → (header-fits h && nlq-fits h q) ≡ true → (e : ℕ) → natAbs (residual (el-depth h) (h .d) (quantization q) e) ≤ 2 ^ 17

@@ -13,7 +13,7 @@ use rounding::raise;
 use rule_seven::quantizes;
 use sums::Cut;
 ghost use mathlib.Core.Path.{_≡_};
-ghost use Rattle.residual.specs.inner.Tables.{residual-table, no-residual, finished-table, cut-numbers};
+ghost use Rattle.residual.specs.inner.Tables.{residual-table, no-pair, residual-pair, no-residual, finished-table, cut-numbers};
 
 // The raised residual of each code.
 pub fn residual_table(h: Header, q: Nlq) -> [u32; 1024]
@@ -33,6 +33,48 @@ pub fn residual_table(h: Header, q: Nlq) -> [u32; 1024]
         e += 1;
     }
     table
+}
+
+// The tables of two quantizations, made at once: for whoever composes two planes together, and so that `residual_table`
+// has one caller, into which the compiler then puts it.
+pub struct Pair {
+    pub first: [u32; 1024],
+    pub second: [u32; 1024],
+}
+
+fn no_pair() -> Pair
+    ensures { λ r. ⌜ r ≡ no-pair ⌝ }
+{
+    let zeros = [0u32; 1024];
+    Pair {
+        first: zeros,
+        second: zeros,
+    }
+}
+
+// Zeros where one of them cannot be computed with.
+pub fn residual_pair(h: Header, a: Nlq, b: Nlq) -> Pair
+    ensures { λ r. ⌜ r ≡ residual-pair h a b ⌝ }
+{
+    if !(quantizes(h, a) & quantizes(h, b)) {
+        return no_pair();
+    }
+    let el = (h.el as u32) + 8;
+    let d = h.d as u32;
+    let out = (h.hdr as u32) + 8;
+    let codes = power(el) as u16;
+    let mut first = [0u32; 1024];
+    let mut second = [0u32; 1024];
+    let mut e: u16 = 0;
+    while e < codes {
+        first[e as usize] = raise(out, residual_of(el, d, a, e));
+        second[e as usize] = raise(out, residual_of(el, d, b, e));
+        e += 1;
+    }
+    Pair {
+        first: first,
+        second: second,
+    }
 }
 
 // The raised residual of no residual, for every code: where samples are added up whose enhancement says nothing.

@@ -18,6 +18,7 @@ use Rattle.rows.proofs.look_up_rows.Reads as look-up-rows-promise
 use Rattle.rows.proofs.add_up_rows.Reads as add-up-rows-promise
 use Rattle.mapping.proofs.mapped_table.Reads as mapped-table-promise
 use Rattle.residual.proofs.residual_table.Reads as residual-table-promise
+use Rattle.residual.proofs.residual_pair.Reads as residual-pair-promise
 use Rattle.residual.proofs.no_residual.Reads as no-residual-promise
 use Rattle.residual.proofs.finished_table.Reads as finished-table-promise
 use Rattle.residual.proofs.cut_numbers.Reads as cut-numbers-promise
@@ -65,6 +66,7 @@ pub record LeavesSettled : Type 0 where
   pub slice-table : OneAnswer slice-table-promise.Post
   pub mapped-table : OneAnswer mapped-table-promise.Post
   pub residual-table : OneAnswer residual-table-promise.Post
+  pub residual-pair : OneAnswer residual-pair-promise.Post
   pub no-residual : OneAnswer no-residual-promise.Post
   pub finished-table : OneAnswer finished-table-promise.Post
   pub cut-numbers : OneAnswer cut-numbers-promise.Post

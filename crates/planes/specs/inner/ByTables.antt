@@ -10,7 +10,7 @@ use Rattle.plan.specs.declared.Plan.{Plan}
 use Rattle.rules.specs.Rules.{extent}
 use Rattle.sums.specs.declared.Cut.{Cut}
 use Rattle.mapping.specs.inner.Mapped.{can-map, mapped-table}
-use Rattle.residual.specs.inner.Tables.{residual-table, no-residual, finished-table, cut-numbers}
+use Rattle.residual.specs.inner.Tables.{residual-table, residual-pair, no-residual, finished-table, cut-numbers}
 use Rattle.mmr.specs.inner.Chroma.{chroma-after}
 use Rattle.rows.specs.declared.Rows.{Rows}
 use Rattle.rows.specs.inner.Rows.{looked-up-rows, added-up-rows}
@@ -40,7 +40,8 @@ plain-chroma p r base output =
 
 abbrev pub enhanced-chroma : Plan → Cut → Rows → List ℕ → List ℕ → List ℕ → List ℕ
 enhanced-chroma p cut r base enhancement output =
-    chroma-after p (r .first) (r .last) (residual-table (p .header) (p .cb .nlq)) (residual-table (p .header) (p .cr .nlq)) cut base enhancement output
+    let raised = residual-pair (p .header) (p .cb .nlq) (p .cr .nlq) in
+    chroma-after p (r .first) (r .last) (raised .first) (raised .second) cut base enhancement output
 
 -- and luma by its table
 abbrev pub plain-mixed : Plan → Rows → List ℕ → List ℕ → List ℕ

@@ -1,5 +1,5 @@
 -- The inverse quantization (5.4.3.2) and the reconstruction (5.4.3.3) as tables; zeros where the header or the quantization cannot be computed with.
-use mathlib.Core.Bool.{_&&_, cond}
+use mathlib.Core.Bool.{Bool, _&&_, cond}
 use mathlib.Core.List.{List}
 use Prim.Native.Nat.{ℕ, _-_, _*_, _^_}
 use lib.IntN.{pos}
@@ -13,6 +13,7 @@ use Rattle.plan.specs.Parameters.{quantization}
 use Rattle.plan.specs.Ranges.{el-depth, hdr-depth, header-fits}
 use Rattle.plan.specs.Rule7.{nlq-fits}
 use Rattle.sums.specs.declared.Cut.{Cut}
+use Rattle.residual.specs.declared.Pair.{Pair}
 use Rattle.residual.specs.inner.Raising.{raised}
 
 -- the raised residual of every code that an enhancement layer sample can have; 0 past the codes
@@ -20,6 +21,22 @@ unfoldable pub residual-table : Header → Nlq → List ℕ
 residual-table h q =
     table 1024
     (coded (header-fits h && nlq-fits h q) (2 ^ el-depth h) (λ e. raised (hdr-depth h) (residual (el-depth h) (h .d) (quantization q) e)))
+
+-- of two quantizations; zeros where one of them cannot be computed with
+abbrev pub pair : List ℕ → List ℕ → Pair
+pair first second = record { first = first; second = second }
+
+abbrev pub no-pair : Pair
+no-pair = pair (replicate 1024 0) (replicate 1024 0)
+
+abbrev pub both-fit : Header → Nlq → Nlq → Bool
+both-fit h a b = (header-fits h && nlq-fits h a) && (header-fits h && nlq-fits h b)
+
+abbrev pub table-of : Header → Nlq → Bool → List ℕ
+table-of h q fit = table 1024 (coded fit (2 ^ el-depth h) (λ e. raised (hdr-depth h) (residual (el-depth h) (h .d) (quantization q) e)))
+
+abbrev pub residual-pair : Header → Nlq → Nlq → Pair
+residual-pair h a b = pair (table-of h a (both-fit h a b)) (table-of h b (both-fit h a b))
 
 -- the raised residual of no residual
 unfoldable pub no-residual : Header → List ℕ
