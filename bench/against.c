@@ -1,52 +1,59 @@
 /* What `against` runs: the proved code before a change and after it. Prints tables in Markdown: nanoseconds a sample
    and ratios, at the end the worst and the median ratio. Exits 1 where outputs differ. */
-#include "before.h"
 #include "blocks.h"
 #include "rows.h"
 #include <stdio.h>
 
-enum { RUNS = 61, ROWS = 72 + 6 };
+/* MMR takes ten times as long a sample, so its rows have fewer runs */
+enum { RUNS = 61, MMR_RUNS = 21, ROWS = ROWS_A_KIND * (2 * POLYNOMIALS + MMRS) + BLOCKS };
 
-/* the plan of the row, as the revision before has it: made once, so that no time is that of making it */
-static PlanBefore older;
+PROVED_JOB(speed_job_before);
+PROVED_WRITE(speed_write_before);
 
-#define WAY(name, job, its_plan)                                                                             \
+#define WAY(name, job)                                                                                       \
     static uint8_t name(const Plan *plan, size_t first, size_t count)                                        \
     {                                                                                                        \
-        (void)plan;                                                                                          \
-        return job(its_plan, 1, 1, first, count, base, size, enhancement, size, output, size, marks, pairs); \
+        return job(*plan, 1, 1, first, count, base, size, enhancement, size, output, size, marks, pairs);    \
     }
-WAY(before, speed_job_before, older)
-WAY(after, speed_job, *plan)
+WAY(before, speed_job_before)
+WAY(after, speed_job)
 static Way *const ways[] = {before, after};
 
 static double ratios[ROWS];
 static int rows;
 
 /* The ratio is the median of the runs' own ratios: what slows the machine for a while slows both sides of a run. */
-static void end_row(double times[2][RUNS])
+static void end_row(int runs, double times[2][runs])
 {
-    double ratio[RUNS];
-    for (int r = 0; r < RUNS; r++)
+    double ratio[runs];
+    for (int r = 0; r < runs; r++)
         ratio[r] = times[1][r] / times[0][r];
-    ratios[rows] = median(ratio, RUNS);
-    printf("| %.2f | %.2f | %.3f |\n", median(times[0], RUNS), median(times[1], RUNS), ratios[rows]);
+    ratios[rows] = median(ratio, runs);
+    printf("| %.2f | %.2f | %.3f |\n", median(times[0], runs), median(times[1], runs), ratios[rows]);
     rows++;
+}
+
+static void in_runs(int runs, const Plan *plan, size_t step)
+{
+    double times[2][runs];
+    compare(ways, 2, plan, step);
+    measure(ways, 2, runs, plan, step, times);
+    end_row(runs, times);
 }
 
 static void before_and_after(const Plan *plan, size_t step)
 {
-    double times[2][RUNS];
-    older = plan_before(plan);
-    compare(ways, 2, plan, step);
-    measure(ways, 2, RUNS, plan, step, times);
-    end_row(times);
+    in_runs(RUNS, plan, step);
+}
+
+static void mmr_before_and_after(const Plan *plan, size_t step)
+{
+    in_runs(MMR_RUNS, plan, step);
 }
 
 static WRITE(write_before)
 {
-    (void)plan;
-    return speed_write_before(older, version, out, out_len);
+    return speed_write_before(*plan, version, out, out_len);
 }
 
 static WRITE(write_after)
@@ -58,29 +65,34 @@ static void block_row(const char *name, const Plan *plan, uint16_t version, size
 {
     static Writer *const writers[] = {write_before, write_after};
     double times[2][RUNS];
-    older = plan_before(plan);
     compare_writers(writers, 2, plan, version, length);
     measure_writers(writers, 2, RUNS, plan, version, times);
     printf("| %s | %d | %zu ", name, version, length);
-    end_row(times);
+    end_row(RUNS, times);
+}
+
+static void head(size_t half_width, size_t half_height, int runs, const char *kinds)
+{
+    printf("%zu x %zu, nanoseconds a sample, medians of %d interleaved runs:\n\n"
+           "| samples | jobs | %s | enhancement | before | after | after / before |\n"
+           "|---|---|---|---|---|---|---|\n",
+           2 * half_width, 2 * half_height, runs, kinds);
 }
 
 int main(void)
 {
     static const size_t half[][2] = {{1920, 1080}, {960, 540}};
     for (int k = 0; k < 2; k++) {
-        printf("%zu x %zu, nanoseconds a sample, medians of %d interleaved runs:\n\n"
-               "| samples | jobs | pieces | enhancement | before | after | after / before |\n"
-               "|---|---|---|---|---|---|---|\n",
-               2 * half[k][0], 2 * half[k][1], RUNS);
+        head(half[k][0], half[k][1], RUNS, "pieces");
         each_row(half[k][0], half[k][1], polynomials, POLYNOMIALS, before_and_after);
         printf("\n");
     }
-    printf("Nanoseconds a block that is written:\n\n"
+    head(half[1][0], half[1][1], MMR_RUNS, "Cb and Cr");
+    each_row(half[1][0], half[1][1], mmrs, MMRS, mmr_before_and_after);
+    printf("\nNanoseconds a block that is written:\n\n"
            "| block | version | bytes | before | after | after / before |\n|---|---|---|---|---|---|\n");
-    each_block(ROW_BEFORE == ROW, block_row); /* before R-3 there was no MMR */
-    printf("\n");
+    each_block(block_row);
     double middle = median(ratios, rows);
-    printf("after / before: the worst %.3f, the median %.3f\n", ratios[rows - 1], middle);
+    printf("\nafter / before: the worst %.3f, the median %.3f\n", ratios[rows - 1], middle);
     return 0;
 }

@@ -4,8 +4,8 @@
 #include "job.h"
 
 /* The proved writer: 0, or the refusal's number. `against` links it twice, as it does the job. */
-#define PROVED_WRITE(name, Plan) uint8_t name(Plan plan, uint16_t version, uint8_t *out, size_t out_len)
-PROVED_WRITE(speed_write, Plan);
+#define PROVED_WRITE(name) uint8_t name(Plan plan, uint16_t version, uint8_t *out, size_t out_len)
+PROVED_WRITE(speed_write);
 
 /* The same in C: write.c, once a compiler. */
 #define WRITE(name) uint8_t name(const Plan *plan, uint16_t version, uint8_t *out, size_t out_len)

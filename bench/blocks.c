@@ -43,12 +43,10 @@ static Plan plan_for(const Block *block, uint16_t version)
     return plan;
 }
 
-void each_block(int mmr, void (*show)(const char *name, const Plan *plan, uint16_t version, size_t length))
+void each_block(void (*show)(const char *name, const Plan *plan, uint16_t version, size_t length))
 {
     for (uint16_t version = 1; version <= 2; version++)
         for (size_t k = 0; k < sizeof blocks / sizeof blocks[0]; k++) {
-            if (blocks[k].kind.order != 0 && !mmr)
-                continue;
             Plan plan = plan_for(&blocks[k], version);
             show(blocks[k].kind.name, &plan, version, blocks[k].lengths[version - 1]);
         }

@@ -39,13 +39,12 @@ typedef struct {
     Component y, cb, cr;
 } Plan;
 
-/* The proved row job: 0, or the refusal's number. A slice is a pointer, then a length. `against` links it twice, and
-   before.h has the other's plan. */
-#define PROVED_JOB(name, Plan)                                                                        \
+/* The proved row job: 0, or the refusal's number. A slice is a pointer, then a length. `against` links it twice. */
+#define PROVED_JOB(name)                                                                              \
     uint8_t name(Plan plan, uint32_t open_ticket, uint32_t ticket, size_t first, size_t count,        \
                  const uint16_t *base, size_t base_len, const uint16_t *enhancement, size_t enhancement_len, \
                  uint16_t *output, size_t output_len, uint8_t *marks, size_t marks_len)
-PROVED_JOB(speed_job, Plan);
+PROVED_JOB(speed_job);
 
 /* The same job in C: clause.c and tables.c, once a compiler. They have no tickets and no marks, so the proved side does
    a little more. */

@@ -13,7 +13,8 @@ const Kind mmrs[MMRS] = {{"order 1, narrow", 8, 1, 1, 0},
                          {"order 3, narrow", 8, 1, 3, 0},
                          {"order 1, wide", 8, 1, 1, 1},
                          {"order 3, wide", 8, 1, 3, 1},
-                         {"8 pieces, mixed", 8, 8, MIXED, 0}};
+                         {"8 pieces, mixed", 8, 8, MIXED, 0},
+                         {"16 pieces, mixed", 8, 16, MIXED, 0}};
 
 static uint32_t next_random(void)
 {

@@ -22,7 +22,7 @@ typedef struct {
 } Kind;
 enum { MIXED = 4 };
 
-enum { POLYNOMIALS = 3, MMRS = 5 };
+enum { POLYNOMIALS = 3, MMRS = 6 };
 extern const Kind polynomials[POLYNOMIALS], mmrs[MMRS];
 
 Plan plan_of(const Kind *kind, int enhanced);

@@ -119,6 +119,6 @@ int main(void)
     printf("\nNanoseconds a block that is written, medians of %d interleaved runs:\n\n"
            "| block | version | bytes | proved | C | proved / C |\n|---|---|---|---|---|---|\n",
            RUNS);
-    each_block(1, block_row);
+    each_block(block_row);
     return 0;
 }

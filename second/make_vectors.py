@@ -29,6 +29,7 @@ import picture
 import places
 import plan_cases
 import sample_cases
+import search_cases
 import write_cases
 
 
@@ -180,7 +181,7 @@ def ten_lines_files(outdir):
 
 def all_samples():
     """The cases of sample_vectors."""
-    return sample_cases.all_cases() + mmr_cases.all_cases()
+    return sample_cases.all_cases() + mmr_cases.all_cases() + search_cases.all_cases()
 
 
 def make(outdir):

@@ -27,6 +27,7 @@ import places
 import plan_cases
 import plan_text
 import sample_cases
+import search_cases
 import words
 import write_cases
 import writer
@@ -732,10 +733,110 @@ def test_sample_cases():
     """The same by what is composed: for some of the wrong readers, and for every wrong mapping."""
     readers = {name: {"read": read} for name, read in wrong_readers.WRONG.items()}
     mappers = {name: {"mapping": mapping} for name, mapping in wrong_mappers.WRONG.items()}
-    shows = {**sample_cases.SHOWS, **mmr_cases.SHOWS}
+    shows = {**sample_cases.SHOWS, **mmr_cases.SHOWS, **search_cases.SHOWS}
     assert_shown(shows, by_kind(all_samples()), {**readers, **mappers},
                  lambda case, wrong: composed_line(case) != composed_line(case, **wrong))
     assert shown_names(shows) - set(readers) == set(mappers)
+
+
+def search_samples():
+    """{kind: its cases}, of those of search_cases.py."""
+    kinds = by_kind(all_samples())
+    return {kind: kinds[kind] for kind in search_cases.SHOWS}
+
+
+def test_search_cases():
+    """Each of their kinds shows what it is said to at both depths, and one with MMR in the chroma planes."""
+    for kind, names in search_cases.SHOWS.items():
+        for depth in limits.DEPTHS:
+            cases = [case for case in search_samples()[kind] if case.plan.BL_bit_depth == depth]
+            for name in names:
+                assert any(told(case, wrong_mappers.WRONG[name], "MMR" in kind) for case in cases), (kind, depth, name)
+
+
+def told(case, mapping, in_chroma):
+    """Whether the composed samples, or those of Cb and Cr, are others with this mapping."""
+    right, wrong = (composed_line(case, mapping=one).split() for one in (map_place, mapping))
+    first = case.plan.width * case.plan.height if in_chroma else 0
+    return right[first:] != wrong[first:]
+
+
+def test_one_mistake():
+    """Without their mistakes the halving search and the differences are right, so that each has no other one.
+
+    By hand, at depth 10: a third coefficient of 1 makes the sum s x s. At 3 it is 9, grows by 7, and this by 2: four
+    codes on it is 9 + 4 x 7 + 6 x 2 = 49, three before 9 - 3 x 7 + 6 x 2 = 0. Half as bent it is 9 + 28 + 6 = 43. Less
+    2^20 it is below 0 at 512, and cut there it is 0 + 1,025 + 1,027 two codes on. 2^20 more are too many at 3, where d
+    is 0: cut each time it is 2^20 - 1 + 9 two codes on.
+    """
+    assert wrong_mappers.differences([0, 0, 1], 3, 10) == (9, 7, 2)
+    assert [wrong_mappers.going_on([0, 0, 1], 3, steps, 10, 0) for steps in (0, 4, -3)] == [9, 49, 0]
+    assert wrong_mappers.half_as_bent([0, 0, 1], 3, 4, 10, 0) == 43
+    assert wrong_mappers.cut_on_the_way([0, 0, 1], 3, 4, 10, 0) == 49
+    assert wrong_mappers.cut_on_the_way([-1, 0, 1], 512, 2, 10, 0) == 1025 + 1027
+    assert wrong_mappers.cut_on_the_way([1, 0, 1], 3, 2, 10, 0) == (1 << 20) + 8
+    assert [wrong_mappers.halving(2, 5, [0, 5, 5, 9], left) for left in (0, 1)] == [(2, 2), (2, 3)]
+    halving = wrong_mappers.choosing(lambda piece, n, s, pivots: wrong_mappers.halving(n, s, pivots)[0])
+    for cases in search_samples().values():
+        for case in cases:
+            assert composed_line(case) == composed_line(case, mapping=halving)
+            assert composed_line(case) == composed_line(case, mapping=wrong_mappers.by_differences())
+
+
+def test_equal_pivots():
+    """Every way of equal pivots, for polynomials and for MMR, both depths; its pieces are apart at every sample."""
+    assert search_cases.runs_of(2) == [[2]] and search_cases.runs_of(3) == [[1, 2], [2, 1], [3]]
+    assert search_cases.runs_of(4) == [[1, 1, 2], [1, 2, 1], [1, 3], [2, 1, 1], [2, 2], [3, 1], [4]]
+    assert search_cases.runs_of(17) == [
+        [17], [9] + [1] * 8, [1] * 8 + [9], [1] * 4 + [9] + [1] * 4, [5] + [1] * 7 + [5], [2] * 8 + [1], [3] * 5 + [2]]
+    ways, stands = set(), set()
+    for kind, cases in search_samples().items():
+        for case in cases if "equal" in kind else []:
+            pivot_value = assign_pivot_values(case.plan.pred_pivot_value, case.plan.num_pivots_minus2)
+            for cmp, pivots in enumerate(pivot_value):
+                which = composer.has_mmr(case.plan, cmp), case.plan.BL_bit_depth
+                values = sorted(set(pivots))
+                ways.add((*which, tuple(map(pivots.count, values))))
+                stands |= {(*which, len(pivots) > 4, stand_of(pivot, which[1]))
+                           for pivot in values if pivots.count(pivot) > 1}
+                assert_apart(case, cmp, pivot_value)
+    both = [(by_mmr, depth) for by_mmr in (False, True) for depth in limits.DEPTHS]
+    assert ways == {(*which, tuple(runs)) for which in both for number in (2, 3, 4, 15, 16, 17)
+                    for runs in search_cases.runs_of(number)}
+    assert stands == {(*which, many, stand) for which in both for many in (False, True)
+                      for stand in ("0", "between", "top", "above")}
+
+
+def stand_of(pivot, depth):
+    top = (1 << depth) - 1
+    return "0" if pivot == 0 else "top" if pivot == top else "above" if pivot > top else "between"
+
+
+def assert_apart(case, cmp, pivot_value):
+    """A plane of a case has all samples about its pivots, and at each of them its pieces come to numbers far apart."""
+    plan, pivots = case.plan, pivot_value[cmp]
+    sixth = len(case.base) // 6
+    places = range(4 * sixth) if cmp == 0 else range((3 + cmp) * sixth, (4 + cmp) * sixth)
+    assert set(search_cases.samples_about(pivots, plan.BL_bit_depth)) <= {case.base[at] for at in places}
+    for at in places:
+        sX = composer.samples_of(plan, case.base, cmp, at)
+        mapped = sorted(composer.map_by_piece(plan, pivot_value, cmp, sX, piece)
+                        for piece in range(limits.carried(len(pivots) - 2, case.version)))
+        assert all(after - before >= 64 for before, after in zip([0] + mapped, mapped + [65535]))
+
+
+def test_every_code():
+    """Their luma has every code once, each of their chroma planes every fourth, and sums are cut on both sides."""
+    for kind in ("every code", "every code, version 2"):
+        for case in search_samples()[kind]:
+            codes = 1 << case.plan.BL_bit_depth
+            chroma = codes + codes // 4
+            assert sorted(case.base[:codes]) == list(range(codes))
+            for plane in (case.base[codes:chroma], case.base[chroma:]):
+                assert sorted(plane) == list(range(min(plane), codes, 4))
+            for cmp in range(3):
+                mapped = sample_cases.mapped_plane(case.plan, cmp, case.base)
+                assert {0, 65535} < set(mapped) and case.plan.num_pivots_minus2[cmp] == 15
 
 
 def composed_line(case, read=block.read, mapping=map_place):
@@ -1114,7 +1215,7 @@ def test_stream_limits():
     assert len(bases) < 256 and max(len(case.edits) for case in cases) < 256
     assert max(len(answers.block_line(data)) for data in bases) < 20480
     sizes = sorted({len(run) for case in all_samples() for run in (case.base, case.enhancement)})
-    assert sizes[-1] == 3 * 2 * limits.HALF_WIDTHS[-1] and sizes[-2] <= 128
+    assert [size for size in sizes if size > 180] == [384, 1536, 3 * 2 * limits.HALF_WIDTHS[-1]]
     text = plan_text.text_of(author_cases.longest_plan(), 2)
     assert len(text) == 24733 < limits.TEXT_BYTES == 32768 and len(plan_text.read_text(text).data) == 6533
 

@@ -1,7 +1,7 @@
 """Mappings with one mistake each, by name: what the cases of sample_vectors have to tell from the right one.
 
-sample_cases.py and mmr_cases.py say which kind of case shows which of them, and selftest.py holds them to that. A
-mapping is what composer.map_place is.
+sample_cases.py, mmr_cases.py and search_cases.py say which kind of case shows which of them, and selftest.py holds them
+to that. A mapping is what composer.map_place is.
 """
 
 from fractions import Fraction
@@ -44,6 +44,93 @@ def not_clamped(plan, pivot_value, cmp, sX):
     further = list(pivot_value)
     further[cmp] = pivots[:-1] + [sX[cmp]]
     return map_by_piece(plan, further, cmp, sX, n + 1)
+
+
+# The search for the piece ---------------------------------------------------
+
+def last_of_equals(piece, n, s, pivots):
+    """The last of the pieces whose next pivot is the right one's."""
+    return piece if piece > n else max(i for i in range(n + 1) if pivots[i + 1] == pivots[piece + 1])
+
+
+def halving(n, s, pivots, undecided=0):
+    """The lowest and the highest piece that are left where halving has come down to so few more than one.
+
+    At 0 both are the right piece: what is wrong is where it ends, or what it is given.
+    """
+    low, high = 0, n + 1
+    while high - low > undecided:
+        middle = (low + high) // 2
+        if s < pivots[middle + 1]:
+            high = middle
+        else:
+            low = middle + 1
+    return low, high
+
+
+def over_all_places(piece, n, s, pivots):
+    """As if all pivots were in use; those beyond the last one are 0, which does not rise."""
+    rest = [0] * (limits.PIVOT_PLACES - len(pivots))
+    return halving(limits.N[-1], s, pivots + rest)[0]
+
+
+def filled_in(piece, n, s, pivots):
+    """Pieces are filled in one after the other, and each takes a code before it is asked for its end."""
+    after = 0
+    for i in range(n + 1):
+        after = max(after + 1, pivots[i + 1])
+        if s < after:
+            return i
+    return n + 1
+
+
+# Polynomials that go on from code to code -------------------------------------
+
+def poly_sum(coef, s, depth):
+    return sum((z * s ** i) << (20 - i * depth) for i, z in enumerate(coef[:3]))
+
+
+def differences(coef, first, depth):
+    """The sum at a code, how much the next one's is more, and how much more that grows with each code."""
+    begin = poly_sum(coef, first, depth)
+    return begin, poly_sum(coef, first + 1, depth) - begin, coef[2] << (21 - 2 * depth)
+
+
+def going_on(coef, first, steps, depth, d):
+    """The sum so many codes after the first one, before it where they are negative: right, however many there are."""
+    begin, slope, bend = differences(coef, first, depth)
+    return begin + steps * slope + steps * (steps - 1) // 2 * bend
+
+
+def half_as_bent(coef, first, steps, depth, d):
+    begin, slope, bend = differences(coef, first, depth)
+    return begin + steps * slope + steps * (steps - 1) // 2 * (bend // 2)
+
+
+def cut_on_the_way(coef, first, steps, depth, d):
+    """What is cut off a sum is missing in all that follow."""
+    rr, slope, bend = differences(coef, first, depth)
+    for _ in range(steps):
+        rr = min(max(rr, 0), (1 << (20 + d)) - 1) + slope
+        slope += bend
+    return rr
+
+
+def codes_after(piece, n, s, pivots):
+    """How many codes after the piece's pivot the clamped sample is."""
+    return 0 if piece > n else max(s - pivots[piece], 0)
+
+
+def by_differences(steps=codes_after, total=going_on):
+    """Polynomial pieces go on from their pivot; MMR pieces are right."""
+    def mapping(plan, pivot_value, cmp, sX):
+        n, pivots, d = plan.num_pivots_minus2[cmp], pivot_value[cmp], plan.coefficient_log2_denom
+        piece = derive_pivot_idx(sX[cmp], cmp, plan.num_pivots_minus2, pivot_value)
+        if plan.mapping_idc[cmp][piece] == limits.MMR:
+            return map_by_piece(plan, pivot_value, cmp, sX, piece)
+        after = steps(piece, n, sX[cmp], pivots)
+        return right_cut(total(plan.fp_coef[cmp][piece], pivots[piece], after, plan.BL_bit_depth, d), d)
+    return of_samples(mapping)
 
 
 # MMR: the samples that it is given ------------------------------------------
@@ -266,6 +353,24 @@ WRONG = {
     "the piece of the clamped sample": choosing(of_the_clamped),
     "piece n + 1 at the sample as it is": of_samples(not_clamped),
     "piece 0 where no pivot exceeds the sample": choosing(lambda piece, n, s, pivots: 0 if piece > n else piece),
+    "the last of equal pivots": choosing(last_of_equals),
+    "a halving that ends early, the lower piece": choosing(lambda piece, n, s, pivots: halving(n, s, pivots, 1)[0]),
+    "a halving that ends early, the upper piece": choosing(lambda piece, n, s, pivots: halving(n, s, pivots, 1)[1]),
+    "a halving over all places of pivots": choosing(over_all_places),
+    "a halving over all places of pivots, piece n + 1 at most": choosing(
+        lambda piece, n, s, pivots: min(over_all_places(piece, n, s, pivots), n + 1)),
+    "the last place of pieces where no pivot exceeds the sample": choosing(
+        lambda piece, n, s, pivots: limits.PIECE_PLACES - 1 if piece > n else piece),
+    "piece n + 1 from the last pivot but one on": choosing(lambda piece, n, s, pivots: n + 1 if piece == n else piece),
+    "piece 0 up to pivot 2": choosing(lambda piece, n, s, pivots: 0 if piece == 1 else piece),
+    "piece 1 below pivot 1 too": choosing(lambda piece, n, s, pivots: max(piece, 1)),
+    "a code for each empty piece": choosing(filled_in),
+    "piece 0 going on from code 0": by_differences(
+        steps=lambda piece, n, s, pivots: s if piece == 0 else codes_after(piece, n, s, pivots)),
+    "piece 0 at the sample as it is": by_differences(
+        steps=lambda piece, n, s, pivots: s - pivots[0] if piece == 0 else codes_after(piece, n, s, pivots)),
+    "half the second difference": by_differences(total=half_as_bent),
+    "sums that are cut before they go on": by_differences(total=cut_on_the_way),
     "one rounding in the down-sampling": luma_by(
         lambda s, i, j: (row_sum(s, i, 2 * j) + row_sum(s, i, 2 * j + 1) + 4) >> 3),
     "no rounding in the down-sampling": luma_by(

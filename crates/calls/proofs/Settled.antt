@@ -86,6 +86,7 @@ leaves-settled =
       added-up-rows = λ κs a r r' s s' p q. p ∙ sym q;
       lies = λ κs a r r' s s' p q. p ∙ sym q;
       pivots-of = λ κs a r r' s s' p q. p ∙ sym q;
+      piece-of = λ κs a r r' s s' p q. p ∙ sym q;
       clamp = λ κs a r r' s s' p q. p ∙ sym q;
       cut-at = λ κs a r r' s s' p q. p ∙ sym q;
       composed-chroma = λ κs a r r' s s' p q. p ∙ sym q;

@@ -1,3 +1,4 @@
+pub mod Differences
+pub mod InOrder
 pub mod Mappable
 pub mod Meaning
-pub mod Stretches

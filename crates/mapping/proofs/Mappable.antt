@@ -15,9 +15,8 @@ use Rattle.plan.specs.declared.Header.{Header}
 use Rattle.plan.specs.declared.Piece.{Piece}
 use Rattle.plan.specs.declared.Component.{Component}
 use Rattle.plan.specs.Ranges.{most-n, bl-depth, header-fits, count-fits, order-fits}
-use Rattle.plan.specs.Rule7.{every, pivot-places, row-places, pieces-used, no-piece, usable}
-use Rattle.plan.specs.inner.Facts.{HeaderFacts, PieceFacts, ComponentFacts, Arrays}
-use Rattle.plan.proofs.Anywhere.{anywhere}
+use Rattle.plan.specs.Rule7.{pivot-places, row-places, pieces-used, no-piece, usable}
+use Rattle.plan.specs.inner.Facts.{HeaderFacts, PieceFacts, ComponentFacts}
 use Rattle.plan.proofs.Facts.{header-kept, component-facts}
 use Rattle.plan.proofs.Truths.{both, every-at, every-true}
 use Rattle.mapping.specs.inner.Mapped.{frame-maps, order-by, piece-maps, pieces-map, can-map}

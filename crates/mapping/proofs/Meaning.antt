@@ -4,10 +4,10 @@ use mathlib.Core.Bool.{Bool, true, false, _&&_}
 use mathlib.Core.List.{List, []}
 use mathlib.Core.Logic.{⊎-elim}
 use Prim.Native.Nat.{ℕ, zero, suc, _+_, _%_, _<_, _≤_, _^_}
-use native.Mathlib.Nat.{le-of-eq, le-trans, le-antisymm, lt-irrefl, eq-or-lt-of-le, lt-of-lt-of-le, mod-eq-of-lt}
+use native.Mathlib.Nat.{le-antisymm, eq-or-lt-of-le, lt-of-lt-of-le, mod-eq-of-lt}
 use native.Mathlib.Omega.{arith}
 use lib.IntN.{ℤ, natAbs}
-use lib.ListN.{length, getD, set, replicate, length-set, length-replicate}
+use lib.ListN.{getD, set, replicate, length-set, length-replicate}
 use lib.Pow.{pow-pos, pow-mono}
 use lib.Seq.{ext-getD, getD-set-same, getD-set-other}
 use Rattle.runs.specs.inner.Loops.{at}
@@ -15,7 +15,7 @@ use Rattle.runs.specs.inner.Tables.{table, coded}
 use Rattle.runs.proofs.Tables.{length-table, at-table, coded-in, no-codes}
 use Rattle.standard.specs.Parameters.{Mapping}
 use Rattle.standard.specs.Mapping.{pivot-value, pivot-idx, clamped, mapped, polynomial, poly-sum, cut}
-use Rattle.standard.proofs.Pieces.{is-idx, idx-cong, idx-le}
+use Rattle.standard.proofs.Pieces.{idx-cong, idx-le}
 use Rattle.standard.proofs.Polynomials.{by-three-terms}
 use Rattle.plan.specs.declared.Header.{Header}
 use Rattle.plan.specs.declared.Component.{Component}
@@ -28,7 +28,7 @@ use Rattle.plan.proofs.Coefficients.{zero-abs}
 use Rattle.plan.proofs.Truths.{both, every-cong}
 use Rattle.mapping.specs.inner.Mapped.{frame-maps, polynomial-maps, order-by, pieces-map, can-map, mapped-table, with-table, not-mapped, answer}
 use Rattle.mapping.specs.inner.Steps.{coef, kept, row-of, CopiedOrders, CopiedRows, ByRows, mapped-by, pivots-by, table-by}
-use Rattle.mapping.proofs.Mappable.{FrameFacts, PolynomialFacts, frame-facts, pieces-facts}
+use Rattle.mapping.proofs.Mappable.{frame-facts, pieces-facts}
 
 -- ---- what is copied of the pieces, one after the other
 last : (p j : ℕ) → j < p + 1 → j ≤ p
@@ -136,26 +136,6 @@ module _ (h : Header) (c : Component) where
       neither : (a : Bool) {b : Bool} → b ≡ false → (a && b) ≡ false
       neither true e = e
       neither false e = refl
-
--- the first pivot is the first prediction
-pub lowest : (preds : List ℕ) {pivots : List ℕ} → pivots ≡ table pivot-places (pivot-value (at preds)) → at pivots 0 ≡ at preds 0
-unfolding pivot-value
-lowest preds q = ap (λ (l : List ℕ). at l 0) q ∙ at-table pivot-places (pivot-value (at preds)) 0 (omega arith)
-
--- pivots rise, so a sample that the last one does not exceed none exceeds: its piece is n + 1
-rising : (pred : ℕ → ℕ) (i k : ℕ) → i ≤ k → pivot-value pred i ≤ pivot-value pred k
-unfolding pivot-value
-rising pred i zero h = let e : i ≡ 0 = omega arith in le-of-eq (ap (pivot-value pred) e)
-rising pred i (suc k) h = ⊎-elim (λ e. le-of-eq (ap (pivot-value pred) e)) (λ l. le-trans (rising pred i k (omega arith)) (omega arith)) (eq-or-lt-of-le h)
-
-pub above-last : (preds : List ℕ) {pivots : List ℕ} (n s : ℕ) → pivots ≡ table pivot-places (pivot-value (at preds)) → n ≤ most-n → at pivots (n + 1) ≤ s → n + 1 ≡ pivot-idx (at pivots) n s
-above-last preds {pivots} n s q few h =
-    let pv = pivot-value (at preds) in
-    let e : (i : ℕ) → i < pivot-places → at pivots i ≡ pv i = λ i b. ap (λ (l : List ℕ). at l i) q ∙ at-table pivot-places pv i b in
-    let top : pv (n + 1) ≤ s = le-trans (le-of-eq (sym (e (n + 1) (omega arith)))) h in
-    is-idx (at pivots) s n (n + 1) (omega arith)
-    (λ j b. le-trans (le-of-eq (e (j + 1) (omega arith))) (le-trans (rising (at preds) (j + 1) (n + 1) (omega arith)) top))
-    (λ b. absurd (lt-irrefl (n + 1) b))
 
 -- for whoever looks a sample up
 pub mapped-found : (h : Header) (c : Component) → can-map h c ≡ true → (s : ℕ) → s < 2 ^ bl-depth h → at (mapped-table h c) (s % 1024) ≡ mapped (bl-depth h) (h .d) (mapping c) s

@@ -1,7 +1,6 @@
 // The mapping of base layer samples (5.4.2): a table of what every code comes to, since a picture has many more samples than there are codes.
 mod copies; // what the mapping reads of the pieces, copied
 mod limits; // what the numbers of a component must keep to, so that its mapping can be computed
-mod pieces; // the piece of a sample
 mod polynomial; // the polynomial of a piece
 mod table; // the table, by the rows of the pieces
 

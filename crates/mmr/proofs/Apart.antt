@@ -7,7 +7,8 @@ use lib.Pow.{pow-pos}
 use lib.IntN.{ℤ, pos, _+ℤ_, _*ℤ_}
 use lib.Signed.{shrZ}
 use Rattle.mmr.specs.inner.Apart.{fraction, whole-sum, part-sum}
-use Rattle.mmr.proofs.Ring.{distrib, swap-factors, swap-terms, recomposed, floor-sum}
+use Rattle.words.proofs.Integers.{distrib, swap-terms}
+use Rattle.mmr.proofs.Ring.{swap-factors, recomposed, floor-sum}
 
 -- one term more
 pub whole-none : (w : ℕ → ℤ) (t : ℕ → ℕ) → pos 0 ≡ whole-sum w t 0

@@ -2,19 +2,16 @@
 use mathlib.Core.Path.{_≡_, refl, sym, ap, ap₂, _∙_}
 use mathlib.Core.Bool.{Bool, true, false, cond}
 use mathlib.Core.List.{List}
-use mathlib.Core.Logic.{⊎-elim}
-use Prim.Native.Nat.{ℕ, zero, suc, _+_, _-_, _*_, _/_, _%_, _^_, _<_, _≤_, min}
-use native.Mathlib.Nat.{le-trans, le-of-eq, le-of-lt, lt-of-lt-of-le, mul-le-mul-left}
+use Prim.Native.Nat.{ℕ, zero, suc, _+_, _-_, _*_, _/_, _^_, _<_, _≤_}
+use native.Mathlib.Nat.{le-trans, le-of-eq, lt-of-lt-of-le, mul-le-mul-left}
 use native.Mathlib.Omega.{arith}
 use lib.Dec.{leb, ltb, eqb}
-use lib.IntN.{ℤ, pos, natAbs, _+ℤ_, _-ℤ_, _*ℤ_}
-use lib.ListN.{length, getD}
-use lib.Pow.{pow-mono, pow-pos}
-use borrow.Author.Tests.{eqb-true, leb-true, ltb-true, le-leb, lt-ltb, eq-eqb, ne-eqb, ltb-false}
+use lib.IntN.{ℤ, pos, natAbs, _+ℤ_, _-ℤ_}
+use lib.Pow.{pow-mono}
+use borrow.Author.Tests.{leb-true, le-leb, lt-ltb, eq-eqb, ltb-false}
 use Rattle.runs.specs.inner.Loops.{at}
-use Rattle.standard.specs.Parameters.{Mapping, Mmr}
-use Rattle.standard.specs.Mapping.{pivot-value, pivot-idx, clamped, cut, poly-sum, polynomial, mapped}
-use Rattle.standard.specs.Mmr.{_<<_, _>>_, cnt, terms, mmr-sum, mmr, to-pivots, mmr-mapped, chroma-mapped, row-sum, down-sampled, inside}
+use Rattle.standard.specs.Mapping.{pivot-value, pivot-idx, clamped, cut, mapped}
+use Rattle.standard.specs.Mmr.{_<<_, terms, mmr-sum, mmr, to-pivots, mmr-mapped, chroma-mapped, row-sum, down-sampled, inside}
 use Rattle.standard.proofs.Pieces.{idx-cong, idx-le}
 use Rattle.standard.proofs.Polynomials.{three-terms, by-three-terms}
 use Rattle.plan.specs.declared.Header.{Header}
@@ -22,19 +19,18 @@ use Rattle.plan.specs.declared.Piece.{Piece}
 use Rattle.plan.specs.declared.Component.{Component}
 use Rattle.plan.specs.declared.Plan.{Plan}
 use Rattle.plan.specs.Parameters.{mapping, mmr-piece}
-use Rattle.plan.specs.Ranges.{most-n, bl-depth, idc-fits, order-fits, integer-limit}
-use Rattle.plan.specs.Rule7.{every, is-zero, pivot-places, piece-places, row-places, pieces-used, coefficients-used, no-piece}
+use Rattle.plan.specs.Ranges.{bl-depth, integer-limit}
+use Rattle.plan.specs.Rule7.{is-zero, piece-places, row-places, coefficients-used}
 use Rattle.plan.specs.inner.Facts.{HeaderFacts, PieceFacts, ComponentFacts}
 use Rattle.plan.proofs.Truths.{every-true}
 use Rattle.steps.specs.inner.Steps.{pivot-table}
 use Rattle.steps.proofs.Small.{pivot-at}
-use Rattle.mmr.specs.declared.columns.Ends.{Ends}
 use Rattle.mmr.specs.inner.Apart.{coef, whole-sum, narrow-most, wide-most}
 use Rattle.mmr.specs.inner.Luma.{row-from, luma-beside}
 use Rattle.mmr.specs.inner.Steps.{three-of, polynomial-kind, narrow-kind, wide-kind, piece-value}
 use Rattle.mmr.specs.inner.Columns.{code-of}
-use Rattle.mmr.specs.inner.Ready.{row-within, no-kind, kind-by, kind-of, piece-at, mapped-chroma}
-use Rattle.mmr.specs.inner.Chroma.{ends-by, ends-of}
+use Rattle.mmr.specs.inner.Ready.{row-within, kind-by, kind-of, piece-at, mapped-chroma}
+use Rattle.mmr.specs.inner.Chroma.{ends-of}
 use Rattle.mmr.proofs.Powers.{square-raised}
 use Rattle.mmr.proofs.Meeting.{sum-zeros, mmr-sum-is}
 

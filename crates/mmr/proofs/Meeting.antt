@@ -1,8 +1,6 @@
 -- The sum over a row's first terms is the standard's sum of the constant and of each order's seven coefficients. Assumes nothing.
 use mathlib.Core.Path.{_≡_, refl, sym, ap, ap₂, _∙_}
-use mathlib.Core.List.{List}
 use Prim.Native.Nat.{ℕ, zero, suc, _+_, _-_, _*_, _<_, _≤_}
-use native.Mathlib.Nat.{eq-or-lt-of-le}
 use native.Mathlib.Omega.{arith}
 use lib.IntN.{ℤ, pos, _+ℤ_, _*ℤ_, +ℤ-idl, +ℤ-idr, zero-*ℤ}
 use Rattle.standard.specs.Mmr.{cnt, inner-sum, mmr-sum}

@@ -1,13 +1,11 @@
 -- Row pairs of both chroma planes, painted one after the other. Assumes nothing.
 use mathlib.Core.Path.{_≡_, refl, sym, ap, ap₂, _∙_}
-use mathlib.Core.Bool.{Bool, true, false, _||_, cond, true≢false}
+use mathlib.Core.Bool.{Bool, true, false, _||_}
 use mathlib.Core.List.{List}
-use mathlib.Core.Logic.{⊎-elim}
 use Prim.Native.Nat.{ℕ, _+_, _-_, _*_, _/_, _%_, _<_, _≤_}
 use native.Mathlib.Nat.{mul-comm, mul-le-mul-left, mul-add}
 use native.Mathlib.Omega.{arith}
 use lib.Arith.{digits-div, digits-mod}
-use lib.ListN.{length}
 use borrow.Author.Tests.{lt-ltb, le-ltb}
 use Rattle.runs.specs.Runs.{painted, between}
 use Rattle.runs.proofs.Between.{between-empty, between-true, between-join}
@@ -17,7 +15,6 @@ use Rattle.picture.specs.declared.Planes.{Planes}
 use Rattle.picture.specs.inner.Planes.{row-start}
 use Rattle.sums.specs.declared.Cut.{Cut}
 use Rattle.mmr.specs.declared.columns.Format.{Format}
-use Rattle.mmr.specs.declared.columns.Place.{Place}
 use Rattle.mmr.specs.inner.Columns.{Both, cb-column, cr-column, row-value, two-rows, PlaceGiven}
 use Rattle.mmr.specs.inner.Rows.{place-of, chroma-rows, plane-value, RowsGiven}
 

@@ -1,7 +1,7 @@
 -- The square of a raised sample is its raised square: nothing is shifted out. Assumes nothing.
 use mathlib.Core.Path.{_≡_, sym, ap, _∙_}
 use Prim.Native.Nat.{ℕ, _+_, _-_, _*_, _/_, _^_, _≤_}
-use native.Mathlib.Nat.{mul-assoc, mul-left-comm, mul-comm, mul-div-cancel}
+use native.Mathlib.Nat.{mul-assoc, mul-left-comm, mul-div-cancel}
 use native.Mathlib.Omega.{arith}
 use lib.Pow.{pow-add, pow-pos}
 

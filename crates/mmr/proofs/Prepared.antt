@@ -1,15 +1,15 @@
 -- A component made ready maps as its pieces do. Assumes nothing.
-use mathlib.Core.Path.{_≡_, refl, sym, ap, ap₂, subst, _∙_}
+use mathlib.Core.Path.{_≡_, refl, sym, ap, ap₂, _∙_}
 use mathlib.Core.Bool.{Bool, true, false, cond}
 use mathlib.Core.List.{List, []}
 use mathlib.Core.Logic.{⊎-elim}
-use Prim.Native.Nat.{ℕ, zero, suc, _+_, _-_, _*_, _<_, _≤_, zero-le, min}
+use Prim.Native.Nat.{ℕ, zero, suc, _+_, _-_, _*_, _<_, _≤_, zero-le}
 use native.Mathlib.Nat.{le-trans, le-of-eq}
 use native.Mathlib.Omega.{arith}
 use lib.Dec.{leb, ltb, eqb}
 use lib.IntN.{ℤ, pos, natAbs}
-use lib.ListN.{length, getD}
-use borrow.Author.Tests.{eqb-true, leb-true, le-ltb, lt-ltb}
+use lib.ListN.{length}
+use borrow.Author.Tests.{eqb-true, leb-true, le-ltb}
 use Rattle.runs.specs.inner.Loops.{at}
 use Rattle.runs.proofs.Between.{lt-or-ge}
 use Rattle.standard.specs.Mapping.{pivot-idx, cut}
@@ -17,14 +17,15 @@ use Rattle.standard.proofs.Pieces.{idx-le}
 use Rattle.plan.specs.declared.Piece.{Piece}
 use Rattle.plan.specs.declared.Component.{Component}
 use Rattle.plan.specs.Ranges.{most-n}
-use Rattle.plan.specs.Rule7.{is-zero, piece-places, row-places, pieces-used, coefficients-used, no-piece}
+use Rattle.plan.specs.Rule7.{is-zero, piece-places, row-places, pieces-used, coefficients-used}
 use Rattle.plan.proofs.Anywhere.{beyond}
 use Rattle.plan.proofs.Coefficients.{zero-abs}
 use Rattle.plan.proofs.Truths.{every-at}
 use Rattle.steps.specs.inner.Steps.{pivot-table}
+use Rattle.steps.proofs.Halving.{table-rises}
 use Rattle.mmr.specs.inner.Apart.{coef, whole-sum, narrow-most, wide-most}
-use Rattle.mmr.specs.inner.Steps.{Side, row-of, three-of, polynomial-kind, narrow-kind, wide-kind, piece-value, mapped-side, SideGiven}
-use Rattle.mmr.specs.inner.Ready.{row-within, no-kind, kind-by, kind-of, piece-at, order-of, mapped-chroma, Highest}
+use Rattle.mmr.specs.inner.Steps.{Side, row-of, polynomial-kind, narrow-kind, wide-kind, piece-value, mapped-side, SideGiven}
+use Rattle.mmr.specs.inner.Ready.{row-within, no-kind, kind-by, kind-of, piece-at, mapped-chroma, Highest}
 use Rattle.mmr.specs.inner.Chroma.{ReadySide}
 use Rattle.mmr.proofs.Meeting.{sum-zeros}
 use Rattle.mmr.proofs.ByKind.{as-none}
@@ -118,6 +119,7 @@ module _ (d : ℕ) (c : Component) (s : Side) (g : ReadySide d c s) where
       record {
         shallow = h;
         few = omega (arith, g .n, count);
+        rising = rw (g .pivots) (table-rises (c .preds));
         polynomials = coefficient narrow-most polynomial-kind (λ z. omega arith) (polynomial-row d);
         narrow = coefficient narrow-most narrow-kind (λ z. omega arith) (λ q e. narrow-row d q e .1);
         wide = coefficient (wide-most d) wide-kind (λ z. omega arith) (λ q e. wide-row d q e .1);

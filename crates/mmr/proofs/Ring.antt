@@ -5,34 +5,12 @@ use native.Mathlib.Nat.{zero-div, mod-lt, suc-mul, zero-mul, mul-right-comm, div
 use native.Mathlib.Omega.{arith}
 use lib.Arith.{digits-div}
 use lib.Pow.{shr-shr}
-use lib.IntN.{ℤ, pos, negsuc, negℤ, sucℤ, predℤ, _+ℤ_, _-ℤ_, _*ℤ_, +ℤ-idr, +ℤ-assoc, +ℤ-comm, +ℤ-negℤ-cancel, +ℤ-sucℤ, +ℤ-predℤ, zero-*ℤ, sucℤ-*ℤ, predℤ-*ℤ}
+use lib.IntN.{ℤ, pos, negsuc, negℤ, _+ℤ_, _-ℤ_, _*ℤ_, +ℤ-assoc, +ℤ-comm, +ℤ-negℤ-cancel}
 use lib.Signed.{shrZ}
 use borrow.Author.Tests.{lt-ltb}
+use Rattle.words.proofs.Integers.{distrib}
 use Rattle.standard.specs.Mapping.{from-zero, cut}
 use Rattle.mmr.specs.inner.Apart.{fraction}
-
--- (a + b) k = a k + b k, from b to its neighbours
-module _ (a k : ℤ) where
-  up : (b : ℤ) → (a +ℤ b) *ℤ k ≡ a *ℤ k +ℤ b *ℤ k → (a +ℤ sucℤ b) *ℤ k ≡ a *ℤ k +ℤ sucℤ b *ℤ k
-  up b h = ap (λ (z : ℤ). z *ℤ k) (+ℤ-sucℤ a b) ∙ sucℤ-*ℤ (a +ℤ b) k ∙ ap (λ (z : ℤ). z +ℤ k) h ∙ +ℤ-assoc (a *ℤ k) (b *ℤ k) k ∙ ap (λ (z : ℤ). a *ℤ k +ℤ z) (sym (sucℤ-*ℤ b k))
-
-  down : (b : ℤ) → (a +ℤ b) *ℤ k ≡ a *ℤ k +ℤ b *ℤ k → (a +ℤ predℤ b) *ℤ k ≡ a *ℤ k +ℤ predℤ b *ℤ k
-  down b h = ap (λ (z : ℤ). z *ℤ k) (+ℤ-predℤ a b) ∙ predℤ-*ℤ (a +ℤ b) k ∙ ap (λ (z : ℤ). z -ℤ k) h ∙ +ℤ-assoc (a *ℤ k) (b *ℤ k) (negℤ k) ∙ ap (λ (z : ℤ). a *ℤ k +ℤ z) (sym (predℤ-*ℤ b k))
-
-  none : (a +ℤ pos 0) *ℤ k ≡ a *ℤ k +ℤ pos 0 *ℤ k
-  none = ap (λ (z : ℤ). z *ℤ k) (+ℤ-idr a) ∙ sym (ap (λ (z : ℤ). a *ℤ k +ℤ z) (zero-*ℤ k) ∙ +ℤ-idr (a *ℤ k))
-
-  at-pos : (n : ℕ) → (a +ℤ pos n) *ℤ k ≡ a *ℤ k +ℤ pos n *ℤ k
-  at-pos zero = none
-  at-pos (suc n) = up (pos n) (at-pos n)
-
-  at-neg : (n : ℕ) → (a +ℤ negsuc n) *ℤ k ≡ a *ℤ k +ℤ negsuc n *ℤ k
-  at-neg zero = down (pos 0) none
-  at-neg (suc n) = down (negsuc n) (at-neg n)
-
-pub distrib : (a b k : ℤ) → (a +ℤ b) *ℤ k ≡ a *ℤ k +ℤ b *ℤ k
-distrib a (pos n) k = at-pos a k n
-distrib a (negsuc n) k = at-neg a k n
 
 neg-mul : (x t : ℕ) → negℤ (pos x) *ℤ pos t ≡ negℤ (pos (x * t))
 neg-mul zero t = rw zero-mul
@@ -42,12 +20,6 @@ neg-mul (suc x) t = refl
 pub swap-factors : (w : ℤ) (m t : ℕ) → w *ℤ pos m *ℤ pos t ≡ w *ℤ pos t *ℤ pos m
 swap-factors (pos a) m t = ap pos (mul-right-comm a m t)
 swap-factors (negsuc a) m t = neg-mul (suc a * m) t ∙ ap (λ (n : ℕ). negℤ (pos n)) (mul-right-comm (suc a) m t) ∙ sym (neg-mul (suc a * t) m)
-
-pub swap-terms : (a b c d : ℤ) → (a +ℤ b) +ℤ (c +ℤ d) ≡ (a +ℤ c) +ℤ (b +ℤ d)
-swap-terms a b c d =
-    +ℤ-assoc a b (c +ℤ d)
-    ∙ ap (λ (z : ℤ). a +ℤ z) (sym (+ℤ-assoc b c d) ∙ ap (λ (z : ℤ). z +ℤ d) (+ℤ-comm b c) ∙ +ℤ-assoc c b d)
-    ∙ sym (+ℤ-assoc a c (b +ℤ d))
 
 -- an integer is its floor times m, and its fraction
 module _ (m : ℕ) (p : 0 < m) where

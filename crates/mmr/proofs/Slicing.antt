@@ -12,7 +12,6 @@ use borrow.Author.Tests.{le-leb}
 use Rattle.runs.specs.inner.Loops.{at}
 use Rattle.runs.specs.inner.Tables.{table, coded}
 use Rattle.runs.proofs.Tables.{length-table, at-table, coded-in, no-codes}
-use Rattle.standard.specs.Mapping.{pivot-idx}
 use Rattle.standard.specs.Mmr.{chroma-mapped}
 use Rattle.plan.specs.declared.Header.{Header}
 use Rattle.plan.specs.declared.Component.{Component}
@@ -23,33 +22,27 @@ use Rattle.plan.specs.Rule7.{pieces-used, fitting}
 use Rattle.plan.specs.inner.Facts.{ComponentFacts}
 use Rattle.plan.proofs.Facts.{header-facts, component-facts, y-usable, cb-usable, cr-usable}
 use Rattle.plan.proofs.Truths.{both}
+use Rattle.steps.specs.inner.Steps.{found}
 use Rattle.mmr.specs.declared.columns.Format.{Format}
 use Rattle.mmr.specs.inner.Terms.{Agreed}
-use Rattle.mmr.specs.inner.Steps.{Side, row-of, piece-value}
+use Rattle.mmr.specs.inner.Steps.{Side, row-of, piece-value, SideGiven}
+use Rattle.mmr.specs.inner.Columns.{FormatGiven}
 use Rattle.mmr.specs.inner.Ready.{Highest}
 use Rattle.mmr.specs.inner.Chroma.{format-of, numbers-fit, PlanReady, FormatFor, ReadySide}
 use Rattle.mmr.specs.inner.Slice.{sliced, own, slice-terms, slice-of, slice-table, slice-by, SliceGiven}
-use Rattle.mmr.proofs.ByKind.{at-piece}
-use Rattle.mmr.proofs.Two.{agreed-piece}
+use Rattle.mmr.proofs.ByKind.{step-maps}
 use Rattle.mmr.proofs.Prepared.{ready-maps}
 use Rattle.mmr.proofs.Whole.{ready-header, cb-few, cr-few}
 use Rattle.mmr.proofs.Meaning.{cb-means, cr-means}
 
--- ---- one code
-own-low : (cr : Bool) (order : ℕ) → 1 ≤ order → own cr < 7 * order + 1
-own-low true order h = omega arith
-own-low false order h = omega arith
-
--- by the piece that was found, and terms that were made up to an order
-pub slice-found : (f : Format) (c : Side) (cr : Bool) (s p t : ℕ) (ts : List ℕ) → 1 ≤ f .order → p ≡ pivot-idx (at (c .pivots)) (c .n) s → t ≡ at ts (own cr) → Agreed (7 * f .order + 1) ts (slice-terms f cr s) → piece-value (f .order) (f .d) (at (c .kinds) p) (row-of c p) t ts ≡ slice-by f c cr s
+-- ---- one code: by the piece that was found, and terms that were made up to an order
+pub slice-found : (f : Format) → FormatGiven f → (c : Side) → SideGiven (f .d) c → (cr : Bool) (s : ℕ) {p t : ℕ} (ts : List ℕ) → t ≡ at ts (own cr) → Agreed (7 * f .order + 1) ts (slice-terms f cr s) → p ≡ found (at (c .pivots)) (c .n) s → piece-value (f .order) (f .d) (at (c .kinds) p) (row-of c p) t ts ≡ slice-by f c cr s
 unfolding slice-by
-slice-found f c cr s p t ts some e u a =
-    let us = slice-terms f cr s in
-    let kind = at (c .kinds) p in
-    let row = row-of c p in
-    ap (λ (x : ℕ). piece-value (f .order) (f .d) kind row x ts) (u ∙ a .same (own cr) (own-low cr (f .order) some))
-    ∙ agreed-piece (f .order) (f .d) kind row (at us (own cr)) ts us a
-    ∙ at-piece (f .order) (f .d) c s (at us (own cr)) us p e
+slice-found f format c g cr s ts is-own a e = step-maps format c g (own cr) ts (slice-terms f cr s) is-own a s e (first cr)
+  where
+    first : (cr : Bool) → own cr < 8
+    first true = omega arith
+    first false = omega arith
 
 -- ---- tables of the same codes
 same-codes : (n m : ℕ) {f g : ℕ → ℕ} → ((j : ℕ) → f j ≡ g j) → table n (coded true m f) ≡ table n (coded true m g)

@@ -2,12 +2,11 @@
 use mathlib.Core.Path.{_≡_, refl, sym, ap, ap₂, subst, _∙_}
 use mathlib.Core.Bool.{Bool, true, false, _||_, cond, or-true, or-false}
 use mathlib.Core.List.{List}
-use Prim.Native.Nat.{ℕ, _+_, _-_, _*_, _<_, _≤_}
-use native.Mathlib.Nat.{add-zero, add-sub-cancel-left, le-trans}
+use Prim.Native.Nat.{ℕ, _+_, _*_, _<_, _≤_}
+use native.Mathlib.Nat.{add-zero, add-sub-cancel-left}
 use native.Mathlib.Omega.{arith}
 use native.Mathlib.Decide.{ℕ-discrete}
-use lib.Dec.{ltb, eqb}
-use lib.IntN.{ℤ}
+use lib.Dec.{eqb}
 use lib.ListN.{length, getD, set, length-set}
 use lib.Seq.{getD-set-same, getD-set-other}
 use borrow.Author.Tests.{eq-eqb, ne-eqb, lt-ltb, le-ltb}
@@ -16,14 +15,13 @@ use Rattle.runs.specs.inner.Loops.{at}
 use Rattle.runs.proofs.Between.{between-empty, between-more}
 use Rattle.runs.proofs.Painting.{length-painted, at-painted, is-painted, painted-none, painted-cong}
 use Rattle.sums.specs.declared.Cut.{Cut}
+use Rattle.steps.specs.inner.Steps.{found}
 use Rattle.mmr.specs.declared.columns.Format.{Format}
 use Rattle.mmr.specs.declared.columns.Place.{Place}
 use Rattle.mmr.specs.inner.Terms.{Agreed}
-use Rattle.mmr.specs.inner.Steps.{Side, TermsLow, piece-value, mapped-side}
-use Rattle.mmr.specs.inner.Columns.{Both, finished-by, cb-column, cr-column, row-value, two-rows, FormatGiven, PlaceGiven, column-terms}
-use Rattle.mmr.proofs.Meeting.{sum-cong}
-use Rattle.mmr.specs.inner.Apart.{coef, whole-sum}
-use Rattle.standard.specs.Mapping.{pivot-idx, cut}
+use Rattle.mmr.specs.inner.Steps.{Side, row-of, piece-value, mapped-side, SideGiven}
+use Rattle.mmr.specs.inner.Columns.{Both, finished-by, cb-column, cr-column, row-value, two-rows, FormatGiven, BothGiven, column-terms}
+use Rattle.mmr.proofs.ByKind.{step-maps}
 
 -- a value stored over a painting is painted too
 pub painted-set : (s : ℕ → Bool) (f : ℕ → ℕ) (l : List ℕ) (j v : ℕ) → j < length l → v ≡ f j → set (painted s f l) j v ≡ painted (λ i. s i || eqb i j) f l
@@ -61,26 +59,26 @@ module _ (p : Place) (g : ℕ → ℕ) (l : List ℕ) where
       joined : (j : ℕ) → ((two-rows p i j || eqb j (p .cb + i)) || eqb j (p .cr + i)) ≡ two-rows p (i + 1) j
       joined j = turned (between (p .cb) (p .cb + i) j) (between (p .cr) (p .cr + i) j) _ _ ∙ ap₂ _||_ (more (p .cb) j) (more (p .cr) j)
 
--- terms that agree up to the order make the same sample
-pub agreed-piece : (order d kind : ℕ) (row : List ℤ) (t : ℕ) (ts us : List ℕ) → Agreed (7 * order + 1) ts us → piece-value order d kind row t ts ≡ piece-value order d kind row t us
-unfolding piece-value
-agreed-piece order d kind row t ts us a = rw (sum-cong (coef row) (at ts) (at us) (7 * order + 1) (a .same)) refl
+-- a sample at index j, which is k: by the step of the piece that was found it is finished as it is mapped
+module _ {f : Format} (format : FormatGiven f) (c : Side) (g : SideGiven (f .d) c) (own : ℕ) (ts us : List ℕ) (a : Agreed (7 * f .order + 1) ts us) (first : own < 8) where
+  finished-side : (cut : Cut) (raised base enhancement : List ℕ) {j k p : ℕ} → j ≡ k → p ≡ found (at (c .pivots)) (c .n) (at base j) → finished-by cut (piece-value (f .order) (f .d) (at (c .kinds) p) (row-of c p) (at ts own) ts) raised enhancement j ≡ finished-by cut (mapped-side (f .order) (f .d) c (at base k) (at us own) us) raised enhancement k
+  finished-side cut raised base enhancement e q =
+      ap₂ (λ (v i : ℕ). finished-by cut v raised enhancement i)
+      (step-maps format c g own ts us refl a _ q first ∙ ap (λ (i : ℕ). mapped-side (f .order) (f .d) c (at base i) (at us own) us) e)
+      e
 
-pub agreed-side : (order d own : ℕ) (c : Side) (raised : List ℕ) (cut : Cut) (base enhancement : List ℕ) (j k : ℕ) (ts us : List ℕ) → own < 7 * order + 1 → j ≡ k → Agreed (7 * order + 1) ts us → finished-by order d c raised cut base enhancement j (at ts own) ts ≡ finished-by order d c raised cut base enhancement k (at us own) us
-unfolding finished-by mapped-side
-agreed-side order d own c raised cut base enhancement j k ts us b e a =
-    rw (e, a .same own b) (rw (agreed-piece order d (at (c .kinds) (pivot-idx (at (c .pivots)) (c .n) (at base k))) _ (at us own) ts us a) refl)
-
--- the values of the columns where they belong
-module _ (f : Format) (b : Both) (cut : Cut) (p : Place) (base enhancement : List ℕ) (apart : p .cb + p .columns ≤ p .cr) (i : ℕ) (few : i < p .columns) where
-  pub at-cb : cb-column f b cut p base enhancement i ≡ row-value f b cut p base enhancement (p .cb + i)
-  unfolding row-value
-  at-cb =
+-- what is finished at the indices of a column belongs there
+module _ (f : Format) (b : Both) (g : BothGiven f b) (cut : Cut) (p : Place) (base enhancement : List ℕ) (apart : p .cb + p .columns ≤ p .cr) (i : ℕ) (few : i < p .columns) (ts : List ℕ) (a : Agreed (7 * f .order + 1) ts (column-terms f p base i)) {j q : ℕ} where
+  pub at-cb : j ≡ p .cb + i → q ≡ found (at (b .cb .pivots)) (b .cb .n) (at base j) → finished-by cut (piece-value (f .order) (f .d) (at (b .cb .kinds) q) (row-of (b .cb) q) (at ts 2) ts) (b .cb-raised) enhancement j ≡ row-value f b cut p base enhancement (p .cb + i)
+  unfolding row-value cb-column
+  at-cb e is =
       let h : p .cb + i < p .cr = omega arith in
-      rw (lt-ltb (p .cb + i) (p .cr) h) (sym (ap (cb-column f b cut p base enhancement) (add-sub-cancel-left (p .cb) i)))
+      finished-side (g .format) (b .cb) (g .cb) 2 ts _ a (omega arith) cut (b .cb-raised) base enhancement e is
+      ∙ rw (lt-ltb (p .cb + i) (p .cr) h) (sym (ap (cb-column f b cut p base enhancement) (add-sub-cancel-left (p .cb) i)))
 
-  pub at-cr : cr-column f b cut p base enhancement i ≡ row-value f b cut p base enhancement (p .cr + i)
-  unfolding row-value
-  at-cr =
+  pub at-cr : j ≡ p .cr + i → q ≡ found (at (b .cr .pivots)) (b .cr .n) (at base j) → finished-by cut (piece-value (f .order) (f .d) (at (b .cr .kinds) q) (row-of (b .cr) q) (at ts 3) ts) (b .cr-raised) enhancement j ≡ row-value f b cut p base enhancement (p .cr + i)
+  unfolding row-value cr-column
+  at-cr e is =
       let h : p .cr ≤ p .cr + i = omega arith in
-      rw (le-ltb (p .cr + i) (p .cr) h) (sym (ap (cr-column f b cut p base enhancement) (add-sub-cancel-left (p .cr) i)))
+      finished-side (g .format) (b .cr) (g .cr) 3 ts _ a (omega arith) cut (b .cr-raised) base enhancement e is
+      ∙ rw (le-ltb (p .cr + i) (p .cr) h) (sym (ap (cr-column f b cut p base enhancement) (add-sub-cancel-left (p .cr) i)))

@@ -1,26 +1,24 @@
 -- The row pairs of both chroma planes by a plan that can be computed with. Assumes nothing.
-use mathlib.Core.Path.{_≡_, refl, sym, ap, ap₂, _∙_}
-use mathlib.Core.Bool.{Bool, true, false, cond, _&&_}
+use mathlib.Core.Path.{_≡_, refl, ap, ap₂, _∙_}
+use mathlib.Core.Bool.{true, cond, _&&_}
 use mathlib.Core.List.{List}
-use Prim.Native.Nat.{ℕ, _+_, _-_, _*_, _/_, _%_, _^_, _<_, _≤_, max}
-use native.Mathlib.Nat.{le-trans, mul-le-mul-left, mul-assoc}
+use Prim.Native.Nat.{ℕ, _+_, _≤_, max}
+use native.Mathlib.Nat.{mul-le-mul-left, mul-assoc}
 use native.Mathlib.Omega.{arith}
 use lib.Dec.{leb, ltb, eqb}
 use lib.IntN.{ℤ}
-use lib.ListN.{length}
 use borrow.Author.Tests.{leb-true, eqb-true}
-use Rattle.runs.specs.Runs.{painted}
 use Rattle.runs.specs.inner.Loops.{at}
 use Rattle.spans.specs.inner.Spans.{entry}
-use Rattle.picture.specs.Picture.{picture-size, chroma-size, luma-size}
-use Rattle.picture.specs.inner.Planes.{planes, row-start}
+use Rattle.picture.specs.Picture.{picture-size}
+use Rattle.picture.specs.inner.Planes.{planes}
 use Rattle.picture.proofs.Three.{luma-four}
 use Rattle.sums.specs.declared.Cut.{Cut}
 use Rattle.sums.specs.inner.Sums.{cut-of}
 use Rattle.plan.specs.declared.Header.{Header}
 use Rattle.plan.specs.declared.Plan.{Plan}
 use Rattle.plan.specs.declared.Component.{Component}
-use Rattle.plan.specs.Ranges.{most-n, bl-depth, header-fits, count-fits}
+use Rattle.plan.specs.Ranges.{header-fits, count-fits}
 use Rattle.plan.specs.Rule7.{pieces-used}
 use Rattle.plan.specs.inner.Facts.{HeaderFacts}
 use Rattle.plan.proofs.Facts.{header-kept}
@@ -28,11 +26,11 @@ use Rattle.plan.proofs.Truths.{both}
 use Rattle.rules.specs.Rules.{extent}
 use Rattle.mmr.specs.declared.columns.Format.{Format}
 use Rattle.mmr.specs.inner.Steps.{Side, side, mapped-side}
-use Rattle.mmr.specs.inner.Columns.{Both, column-terms, finished-by, cb-column, cr-column, BothGiven}
+use Rattle.mmr.specs.inner.Columns.{column-terms, finished-by, cb-column, cr-column, BothGiven}
 use Rattle.mmr.specs.inner.Columns as columns
-use Rattle.mmr.specs.inner.Rows.{place-of, chroma-rows, plane-value, RowsGiven}
-use Rattle.mmr.specs.inner.Ready.{mapped-chroma, Highest}
-use Rattle.mmr.specs.inner.Chroma.{format-of, composed-chroma, chroma-value, numbers-fit, pairs-fit, runs-fit, chroma-fits, chroma-painted, chroma-after, PlanReady, FormatFor, ChromaGiven, ReadySide}
+use Rattle.mmr.specs.inner.Rows.{plane-value, RowsGiven}
+use Rattle.mmr.specs.inner.Ready.{Highest}
+use Rattle.mmr.specs.inner.Chroma.{format-of, composed-chroma, chroma-value, pairs-fit, PlanReady, FormatFor, ChromaGiven, ReadySide}
 use Rattle.mmr.proofs.Prepared.{ready-given, ready-maps}
 
 -- ---- what the tests give
@@ -101,7 +99,7 @@ module _ {p : Plan} {f : Format} {first last b e o : ℕ} (g : ChromaGiven p f f
           })
 
 -- ---- a plane's value is the plan's
-side-value : (d : ℕ) (c : Component) (s : Side) → ReadySide d c s → (order : ℕ) → Highest c (pieces-used (c .n)) order → (raised : List ℕ) (cut : Cut) (base enhancement : List ℕ) (j t : ℕ) (ts : List ℕ) → finished-by order d s raised cut base enhancement j t ts ≡ composed-chroma d c raised cut base enhancement j t ts
+side-value : (d : ℕ) (c : Component) (s : Side) → ReadySide d c s → (order : ℕ) → Highest c (pieces-used (c .n)) order → (raised : List ℕ) (cut : Cut) (base enhancement : List ℕ) (j t : ℕ) (ts : List ℕ) → finished-by cut (mapped-side order d s (at base j) t ts) raised enhancement j ≡ composed-chroma d c raised cut base enhancement j t ts
 unfolding finished-by composed-chroma
 side-value d c s r order top raised cut base enhancement j t ts = ap (λ (v : ℕ). cut-of cut (v + entry raised (at enhancement j))) (ready-maps d c s r order top (at base j) t ts)
 

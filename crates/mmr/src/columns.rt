@@ -1,22 +1,22 @@
 // One row of Cb and of Cr samples, from the two luma rows beside it. Both components have the same terms, which are made once.
 use crate::luma::down_sample;
-use crate::sample::mapped;
+use crate::step::step_of;
 use crate::terms::terms_of;
 use plan::limits::PIECES;
 use plan::limits::PIVOTS;
 use plan::limits::ROW;
 use steps::clamp;
+use steps::piece_of;
 use sums::Cut;
 use sums::cut_out;
 ghost use mathlib.Core.Path.{_≡_};
-ghost use mathlib.Core.Bool.{_||_};
 ghost use Prim.Native.Nat.{_+_, _*_, _<_, _≤_};
 ghost use lib.ListN.{length, set};
-ghost use Rattle.runs.specs.Runs.{painted, between};
+ghost use Rattle.runs.specs.Runs.{painted};
 ghost use Rattle.runs.specs.inner.Loops.{at};
 ghost use Rattle.mmr.specs.inner.Terms.{Agreed};
 ghost use Rattle.mmr.specs.inner.Luma.{luma-beside};
-ghost use Rattle.mmr.specs.inner.Steps.{side, SideGiven, TermsLow};
+ghost use Rattle.mmr.specs.inner.Steps.{side, piece-value, StepGiven};
 ghost use Rattle.mmr.specs.inner.Columns.{code-of, column-terms, finished-by, both, row-value, two-rows, FormatGiven, PlaceGiven, BothGiven};
 
 // Of a component num_pivots_minus2, and the first and the last pivot.
@@ -75,28 +75,25 @@ fn column_terms(f: Format, p: Place, base: &[u16], i: usize) -> [u64; ROW]
     terms_of(f.order, f.depth, s0, s1, s2)
 }
 
-// The HDR sample at index j of one component: mapped, with the raised residual added, and cut. Its own term is t.
+// The HDR sample at index j of one component: mapped by the row of its piece, with the raised residual added, and cut. Its own
+// term is t.
 fn finished(
     order: usize,
     d: u8,
-    n: usize,
-    pivots: &[u16; PIVOTS],
-    kinds: &[u8; PIECES],
-    rows: &[[i64; ROW]; PIECES],
+    kind: u8,
+    row: &[i64; ROW],
     raised: &[u32; 1024],
     cut: Cut,
-    base: &[u16],
     enhancement: &[u16],
     j: usize,
     t: u64,
     ts: &[u64; ROW],
 ) -> u16
-    requires { ⌜ SideGiven d (side n (now pivots) (now kinds) (now rows)) ⌝ }
-    requires { ⌜ TermsLow order t (now ts) ⌝ }
-    requires { ⌜ (j < length (now base)) × (j < length (now enhancement)) ⌝ }
-    ensures { λ r. ⌜ r ≡ finished-by order d (side n (now (pivots .entry)) (now (kinds .entry)) (now (rows .entry))) (now (raised .entry)) cut (now (base .entry)) (now (enhancement .entry)) j t (now (ts .entry)) ⌝ }
+    requires { ⌜ StepGiven order d kind (now row) t (now ts) ⌝ }
+    requires { ⌜ j < length (now enhancement) ⌝ }
+    ensures { λ r. ⌜ r ≡ finished-by cut (piece-value order d kind (now (row .entry)) t (now (ts .entry))) (now (raised .entry)) (now (enhancement .entry)) j ⌝ }
 {
-    let v = mapped(order, d, n, pivots, kinds, rows, base[j], t, ts);
+    let v = step_of(order, d, kind, row, t, ts);
     let e = enhancement[j];
     cut_out(cut, v, raised[(e % 1024) as usize])
 }
@@ -117,7 +114,8 @@ fn store_both(output: &mut [u16], a: usize, u: u16, b: usize, v: u16)
     output[b] = v;
 }
 
-// The columns of one row of Cb and of Cr.
+// The columns of one row of Cb and of Cr. Both pieces are searched first: what each comparison needs of the one before it is
+// waited for while the terms are made.
 pub(crate) fn compose_columns(
     f: Format,
     p: Place,
@@ -143,19 +141,18 @@ pub(crate) fn compose_columns(
     let columns = p.columns;
     let mut i: usize = 0;
     while i < columns {
-        let ts = column_terms(f, p, base, i);
         let a = index_of(base, p.cb, i);
         let b = index_of(base, p.cr, i);
+        let p1 = piece_of(pivots1, f.cb.n, base[a]);
+        let p2 = piece_of(pivots2, f.cr.n, base[b]);
+        let ts = column_terms(f, p, base, i);
         let u = finished(
             order,
             d,
-            f.cb.n,
-            pivots1,
-            kinds1,
-            rows1,
+            kinds1[p1],
+            &rows1[p1],
             raised1,
             cut,
-            base,
             enhancement,
             a,
             ts[2],
@@ -164,13 +161,10 @@ pub(crate) fn compose_columns(
         let v = finished(
             order,
             d,
-            f.cr.n,
-            pivots2,
-            kinds2,
-            rows2,
+            kinds2[p2],
+            &rows2[p2],
             raised2,
             cut,
-            base,
             enhancement,
             b,
             ts[3],

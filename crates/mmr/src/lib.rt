@@ -4,7 +4,6 @@ mod chroma; // row pairs of both chroma planes
 mod columns; // one row of Cb and of Cr samples
 mod luma; // luma down-sampled to a chroma position
 mod ready; // a component made ready
-mod sample; // the mapped sample of one component
 pub mod slice; // a slice through the mapping, to be looked at
 mod step; // the mapping step of one piece
 mod sum; // the sum over a row's terms, in 64 bits

@@ -16,7 +16,7 @@ ghost use lib.IntN.{natAbs};
 ghost use Rattle.plan.specs.Ranges.{most-n};
 ghost use Rattle.plan.specs.Rule7.{is-zero, piece-places, pieces-used};
 ghost use Rattle.mmr.specs.inner.Apart.{wide-most};
-ghost use Rattle.mmr.specs.inner.Ready.{row-within, kind-by, order-of, Kinds, RowsCopied, Highest};
+ghost use Rattle.mmr.specs.inner.Ready.{row-within, kind-by, Kinds, RowsCopied, Highest};
 
 pub(crate) const NONE: u8 = 3;
 

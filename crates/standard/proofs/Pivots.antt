@@ -1,7 +1,8 @@
--- Pivots as sums made one prediction at a time, and how large they grow. Assumes nothing.
+-- Pivots as sums made one prediction at a time, how large they grow, and that they rise. Assumes nothing.
 use mathlib.Core.Path.{_≡_, refl, ap}
+use mathlib.Core.Logic.{⊎-elim}
 use Prim.Native.Nat.{ℕ, zero, suc, _+_, _*_, _≤_, zero-le}
-use native.Mathlib.Nat.{zero-add, suc-mul}
+use native.Mathlib.Nat.{zero-add, suc-mul, le-of-eq, le-trans, eq-or-lt-of-le}
 use native.Mathlib.Numerals.{add-one}
 use native.Mathlib.Omega.{arith}
 use Rattle.standard.specs.Mapping.{pivot-value}
@@ -29,3 +30,9 @@ pub total-le : (pred : ℕ → ℕ) (m k : ℕ) → ((i : ℕ) → pred i ≤ m)
 unfolding total
 total-le pred m zero h = zero-le
 total-le pred m (suc k) h = rw suc-mul (omega (arith, total-le pred m k h, h k))
+
+-- pivots rise
+pub rising : (pred : ℕ → ℕ) (i k : ℕ) → i ≤ k → pivot-value pred i ≤ pivot-value pred k
+unfolding pivot-value
+rising pred i zero h = let e : i ≡ 0 = omega arith in le-of-eq (ap (pivot-value pred) e)
+rising pred i (suc k) h = ⊎-elim (λ e. le-of-eq (ap (pivot-value pred) e)) (λ l. le-trans (rising pred i k (omega arith)) (omega arith)) (eq-or-lt-of-le h)

@@ -1,7 +1,7 @@
 -- What the steps give where the numbers are as small as rule 7 has them. Assumes nothing.
-use mathlib.Core.Path.{_≡_, sym, ap, _∙_}
+use mathlib.Core.Path.{_≡_, sym, _∙_}
 use mathlib.Core.List.{List}
-use Prim.Native.Nat.{ℕ, zero, suc, _+_, _*_, _/_, _%_, _^_, _<_, _≤_, min}
+use Prim.Native.Nat.{ℕ, zero, suc, _+_, _*_, _%_, _^_, _<_, _≤_, min}
 use native.Mathlib.Nat.{mod-eq-of-lt}
 use native.Mathlib.Omega.{arith}
 use lib.IntN.{ℤ}
@@ -9,7 +9,7 @@ use Rattle.runs.specs.inner.Loops.{at}
 use lib.Seq.{ext-getD}
 use Rattle.runs.specs.inner.Tables.{table}
 use Rattle.runs.proofs.Tables.{length-table, at-table}
-use Rattle.standard.specs.Mapping.{pivot-value, from-zero, cut}
+use Rattle.standard.specs.Mapping.{pivot-value, cut}
 use Rattle.plan.specs.Rule7.{pivot-places}
 use Rattle.steps.specs.inner.Steps.{pivot-table, cut-by}
 
@@ -21,13 +21,13 @@ pivot-small pred (suc i) small = omega (arith, pivot-small pred i (λ j h. small
 
 -- so it is the sum of the predictions up to it
 pub pivot-at : (preds : List ℕ) (i : ℕ) → i < pivot-places → ((j : ℕ) → j ≤ i → at preds j < 2 ^ 10) → at (pivot-table preds) i ≡ pivot-value (at preds) i
-pivot-at preds i b small = rw (at-table pivot-places _ i b) (mod-eq-of-lt (omega (arith, pivot-small (at preds) i small)))
+pivot-at preds i b small = rw (at-table pivot-places _ i b) (omega (arith, pivot-small (at preds) i small))
 
 pub pivots-small : (preds : List ℕ) → ((j : ℕ) → at preds j < 2 ^ 10) → pivot-table preds ≡ table pivot-places (pivot-value (at preds))
 pivots-small preds small =
     ext-getD 0 _ _ (length-table pivot-places _ ∙ sym (length-table pivot-places _))
     (λ i b.
-    let k : i < pivot-places = rw (length-table pivot-places (λ j. pivot-value (at preds) j % 65536)) at b in
+    let k : i < pivot-places = rw (length-table pivot-places (λ j. min (pivot-value (at preds) j) 65535)) at b in
     pivot-at preds i k (λ j h. small j) ∙ sym (at-table pivot-places _ i k))
 
 -- the standard's cut

@@ -1,3 +1,4 @@
 pub mod Bounds
 pub mod Tests
 pub mod Holding
+pub mod Integers

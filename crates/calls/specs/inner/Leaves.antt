@@ -9,6 +9,7 @@ use Rattle.spans.proofs.look_up.Reads as look-up-promise
 use Rattle.sums.proofs.add_up.Reads as add-up-promise
 use Rattle.sums.proofs.cut_out.Reads as cut-out-promise
 use Rattle.steps.proofs.pivots_of.Reads as pivots-of-promise
+use Rattle.steps.proofs.piece_of.Reads as piece-of-promise
 use Rattle.steps.proofs.clamp.Reads as clamp-promise
 use Rattle.steps.proofs.cut_at.Reads as cut-at-promise
 use Rattle.mmr.proofs.compose_chroma.Reads as compose-chroma-promise
@@ -60,6 +61,7 @@ pub record LeavesSettled : Type 0 where
   pub added-up-rows : OneContent add-up-rows-promise.Post (λ c. now (c .left .1 .1 .1 .1 .1 .1 .1 .0))
   pub lies : OneAnswer lies-promise.Post
   pub pivots-of : OneAnswer pivots-of-promise.Post
+  pub piece-of : OneAnswer piece-of-promise.Post
   pub clamp : OneAnswer clamp-promise.Post
   pub cut-at : OneAnswer cut-at-promise.Post
   pub composed-chroma : OneContent compose-chroma-promise.Post (λ c. let tables = c .left .1 .1 .1 in now (tables .1 .1 .1 .1 .1 .0))

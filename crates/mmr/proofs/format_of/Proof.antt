@@ -1,8 +1,8 @@
 -- `mmr::format_of` meets its contract. Assumes nothing.
 use borrow.Author.Needs.{needs}
 use borrow.Author.Tests.{leb-true}
-use mathlib.Core.Path.{_≡_, refl, sym, subst}
-use Prim.Native.Nat.{ℕ, _+_, _*_, _%_, _^_, _<_, _≤_, max}
+use mathlib.Core.Path.{_≡_, refl}
+use Prim.Native.Nat.{ℕ, _+_, _*_, _%_, _^_, _≤_, max}
 use native.Mathlib.Omega.{arith}
 use lib.Pow.{pow-mono}
 use Rattle.plan.specs.declared.Plan.{Plan}
@@ -10,9 +10,8 @@ use Rattle.plan.specs.Ranges.{most-n, bl-depth}
 use Rattle.plan.specs.Rule7.{pieces-used}
 use Rattle.plan.proofs.Shifting.{one-shifted}
 use Rattle.mmr.specs.declared.columns.Ends.{Ends}
-use Rattle.mmr.specs.declared.columns.Format.{Format}
 use Rattle.mmr.specs.inner.Ready.{Highest}
-use Rattle.mmr.specs.inner.Chroma.{ends-of, format-of, FormatFor}
+use Rattle.mmr.specs.inner.Chroma.{ends-of, FormatFor}
 use Rattle.mmr.proofs.Whole.{ready-header, y-few, cb-few, cr-few, higher-of, higher-of-second}
 use Rattle.mmr.proofs.format_of.Statement.{statement}
 use Rattle.mmr.proofs.format_of.Tie as tie

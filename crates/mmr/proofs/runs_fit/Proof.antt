@@ -1,6 +1,5 @@
 -- `mmr::runs_fit` meets its contract. Assumes nothing.
 use borrow.Author.Needs.{needs}
-use mathlib.Core.Path.{ap, _∙_}
 use Rattle.picture.specs.Picture.{picture-size}
 use Rattle.mmr.proofs.runs_fit.Statement.{statement}
 use Rattle.mmr.proofs.runs_fit.Tie as tie

@@ -3,7 +3,6 @@ use borrow.Author.Needs.{needs}
 use borrow.Author.Tests.{leb-true}
 use mathlib.Core.Path.{_≡_, refl, sym, ap, subst, _∙_}
 use Prim.Native.Nat.{ℕ, _≤_}
-use lib.ListN.{length}
 use Rattle.runs.specs.Runs.{painted}
 use Rattle.runs.proofs.Painting.{painted-cong}
 use Rattle.picture.specs.declared.Planes.{Planes}
@@ -15,7 +14,7 @@ use Rattle.mmr.specs.declared.columns.Format.{Format}
 use Rattle.mmr.specs.inner.Steps.{side}
 use Rattle.mmr.specs.inner.Columns.{Both, both}
 use Rattle.mmr.specs.inner.Rows.{chroma-rows, plane-value, RowsGiven}
-use Rattle.mmr.specs.inner.Chroma.{chroma-value, chroma-painted, ReadySide}
+use Rattle.mmr.specs.inner.Chroma.{chroma-painted, ReadySide}
 use Rattle.mmr.proofs.Whole.{ready-header, cr-few, rows-in, both-given, plan-value, counted}
 use Rattle.mmr.proofs.with_cr.Statement.{statement}
 use Rattle.mmr.proofs.with_cr.Tie as tie

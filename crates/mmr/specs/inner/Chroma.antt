@@ -2,13 +2,12 @@
 use mathlib.Core.Path.{_≡_}
 use mathlib.Core.Bool.{Bool, true, _&&_, cond}
 use mathlib.Core.List.{List}
-use Prim.Native.Nat.{ℕ, _+_, _-_, _*_, _/_, _%_, _^_, _≤_}
+use Prim.Native.Nat.{ℕ, _+_, _-_, _/_, _%_, _^_}
 use lib.Dec.{leb, ltb, eqb}
 use lib.ListN.{length}
 use Rattle.runs.specs.Runs.{painted}
 use Rattle.runs.specs.inner.Loops.{at}
 use Rattle.spans.specs.inner.Spans.{entry}
-use Rattle.picture.specs.declared.Planes.{Planes}
 use Rattle.picture.specs.Picture.{picture-size}
 use Rattle.picture.specs.inner.Planes.{planes, row-start}
 use Rattle.sums.specs.declared.Cut.{Cut}

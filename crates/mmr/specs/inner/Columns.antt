@@ -2,9 +2,8 @@
 use mathlib.Core.Path.{_≡_}
 use mathlib.Core.Bool.{Bool, cond, _||_}
 use mathlib.Core.List.{List}
-use Prim.Native.Nat.{ℕ, _+_, _-_, _*_, _^_, _<_, _≤_}
+use Prim.Native.Nat.{ℕ, _+_, _-_, _*_, _^_, _≤_}
 use lib.Dec.{ltb}
-use lib.ListN.{length}
 use Rattle.runs.specs.Runs.{between}
 use Rattle.runs.specs.inner.Loops.{at}
 use Rattle.spans.specs.inner.Spans.{entry}
@@ -30,10 +29,9 @@ column-terms f p base i =
     (code-of (f .codes) (f .cb) (at base (p .cb + i)))
     (code-of (f .codes) (f .cr) (at base (p .cr + i)))
 
--- the HDR sample at index j of a component, whose own term is t: mapped, with the raised residual added, and cut
-unfoldable pub finished-by : ℕ → ℕ → Side → List ℕ → Cut → List ℕ → List ℕ → ℕ → ℕ → List ℕ → ℕ
-finished-by order d c raised cut base enhancement j t ts =
-    cut-of cut (mapped-side order d c (at base j) t ts + entry raised (at enhancement j))
+-- the HDR sample at index j of a component: a mapped sample, with the raised residual added, and cut
+unfoldable pub finished-by : Cut → ℕ → List ℕ → List ℕ → ℕ → ℕ
+finished-by cut v raised enhancement j = cut-of cut (v + entry raised (at enhancement j))
 
 -- what both components of a row go by
 pub record Both : Type 0 where
@@ -47,10 +45,16 @@ both cb cb-raised cr cr-raised = record { cb = cb; cb-raised = cb-raised; cr = c
 
 -- the HDR samples of column i
 unfoldable pub cb-column : Format → Both → Cut → Place → List ℕ → List ℕ → ℕ → ℕ
-cb-column f b cut p base enhancement i = let ts = column-terms f p base i in finished-by (f .order) (f .d) (b .cb) (b .cb-raised) cut base enhancement (p .cb + i) (at ts 2) ts
+cb-column f b cut p base enhancement i =
+    let ts = column-terms f p base i in
+    let j = p .cb + i in
+    finished-by cut (mapped-side (f .order) (f .d) (b .cb) (at base j) (at ts 2) ts) (b .cb-raised) enhancement j
 
 unfoldable pub cr-column : Format → Both → Cut → Place → List ℕ → List ℕ → ℕ → ℕ
-cr-column f b cut p base enhancement i = let ts = column-terms f p base i in finished-by (f .order) (f .d) (b .cr) (b .cr-raised) cut base enhancement (p .cr + i) (at ts 3) ts
+cr-column f b cut p base enhancement i =
+    let ts = column-terms f p base i in
+    let j = p .cr + i in
+    finished-by cut (mapped-side (f .order) (f .d) (b .cr) (at base j) (at ts 3) ts) (b .cr-raised) enhancement j
 
 -- and at the index of the output where they belong: Cb lies before Cr
 unfoldable pub row-value : Format → Both → Cut → Place → List ℕ → List ℕ → ℕ → ℕ

@@ -10,10 +10,10 @@ use Rattle.runs.specs.inner.Loops.{at}
 use Rattle.standard.specs.Mapping.{pivot-idx}
 use Rattle.plan.specs.declared.Piece.{Piece}
 use Rattle.plan.specs.declared.Component.{Component}
-use Rattle.plan.specs.Rule7.{every, is-zero, piece-places, row-places, pieces-used, coefficients-used, no-piece}
+use Rattle.plan.specs.Rule7.{every, is-zero, piece-places, row-places, coefficients-used, no-piece}
 use Rattle.steps.specs.inner.Steps.{pivot-table}
 use Rattle.mmr.specs.inner.Apart.{coef, narrow-most, wide-most}
-use Rattle.mmr.specs.inner.Steps.{Side, row-of, polynomial-kind, narrow-kind, wide-kind, piece-value}
+use Rattle.mmr.specs.inner.Steps.{polynomial-kind, narrow-kind, wide-kind, piece-value}
 
 -- the first places of a row are at most so far from 0, and the others are 0
 unfoldable pub row-within : ℕ → ℕ → List ℤ → Bool

@@ -2,7 +2,7 @@
 use mathlib.Core.Path.{_≡_}
 use mathlib.Core.Bool.{Bool, cond, _||_}
 use mathlib.Core.List.{List}
-use Prim.Native.Nat.{ℕ, _+_, _-_, _*_, _/_, _%_, _<_, _≤_}
+use Prim.Native.Nat.{ℕ, _-_, _*_, _/_, _%_, _≤_}
 use lib.Dec.{ltb}
 use Rattle.runs.specs.Runs.{between}
 use Rattle.picture.specs.declared.Planes.{Planes}

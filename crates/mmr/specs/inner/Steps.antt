@@ -9,6 +9,7 @@ use lib.ListN.{getD}
 use Rattle.runs.specs.inner.Loops.{at}
 use Rattle.standard.specs.Mapping.{pivot-idx, cut}
 use Rattle.plan.specs.Ranges.{most-n}
+use Rattle.steps.specs.inner.Steps.{Rising}
 use Rattle.mmr.specs.inner.Apart.{coef, whole-sum, narrow-most, wide-most}
 use Rattle.mmr.specs.inner.Terms.{high-of}
 
@@ -51,10 +52,11 @@ mapped-side order d c s t ts =
     let p = pivot-idx (at (c .pivots)) (c .n) s in
     piece-value order d (at (c .kinds) p) (row-of c p) t ts
 
--- what a kind says of its row
+-- its pivots rise, so that halving finds a piece; and what a kind says of its row
 pub record SideGiven (d : ℕ) (c : Side) : Type 0 where
   pub shallow : d ≤ 32
   pub few : c .n ≤ most-n
+  pub rising : Rising (at (c .pivots))
   pub polynomials : (p i : ℕ) → at (c .kinds) p ≡ polynomial-kind → natAbs (coef (row-of c p) i) ≤ narrow-most
   pub narrow : (p i : ℕ) → at (c .kinds) p ≡ narrow-kind → natAbs (coef (row-of c p) i) ≤ narrow-most
   pub wide : (p i : ℕ) → at (c .kinds) p ≡ wide-kind → natAbs (coef (row-of c p) i) ≤ wide-most d

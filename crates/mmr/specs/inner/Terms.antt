@@ -1,10 +1,10 @@
 -- The standard's terms as the code makes them: the second order is the first's squares, the third the first times the second.
 use mathlib.Core.Path.{_≡_}
 use mathlib.Core.List.{List}
-use Prim.Native.Nat.{ℕ, _+_, _-_, _*_, _^_, _<_, _≤_}
+use Prim.Native.Nat.{ℕ, _-_, _*_, _^_, _<_, _≤_}
 use lib.ListN.{length}
 use Rattle.runs.specs.inner.Loops.{at}
-use Rattle.standard.specs.Mmr.{_<<_, _>>_}
+use Rattle.standard.specs.Mmr.{_>>_}
 
 -- three clamped samples
 pub record TermsGiven (depth s0 s1 s2 : ℕ) : Type 0 where

@@ -1,7 +1,7 @@
 -- The pivots up to i are there, and the sum is that of the predictions passed. Assumes nothing.
 use mathlib.Core.Path.{_≡_, refl, ap, ap₂, _∙_}
 use borrow.Author.Needs.{needs}
-use Prim.Native.Nat.{ℕ, _+_, _-_, _*_, _%_, _≤_}
+use Prim.Native.Nat.{ℕ, _+_, _-_, _*_, _≤_, min}
 use native.Mathlib.Omega.{arith}
 use Rattle.plan.specs.Rule7.{pivot-places}
 use Rattle.runs.specs.inner.Loops.{at}
@@ -13,7 +13,7 @@ use Rattle.steps.proofs.pivots_of.Tie as tie
 
 abbrev Inv-loop : tie.InvT-loop
 Inv-loop preds pivots₀ sum₀ i₀ pivots sum i =
-    (i ≤ pivot-places) × ((sum ≤ i * 65535) × ((sum ≡ total (at preds) i) × Filled pivot-places (λ j. pivot-value (at preds) j % 65536) i pivots))
+    (i ≤ pivot-places) × ((sum ≤ i * 65535) × ((sum ≡ total (at preds) i) × Filled pivot-places (λ j. min (pivot-value (at preds) j) 65535) i pivots))
 
 abbrev μ-loop : tie.MeasureT-loop
 μ-loop preds pivots₀ sum₀ i₀ pivots sum i = pivot-places - i
@@ -33,8 +33,9 @@ loop-again c =
     let lp : tie.At-loop Inv-loop μ-loop = search needs in
     let ps = at (st .args .t1) in
     let w : tie.After-wide Inv-loop μ-loop = search needs in
+    let v : tie.After-narrow Inv-loop μ-loop = search needs in
     let e = ap₂ _+_ (lp .loop .inv .1 .1 .0) (w .wide .ensures .0) in
-    (omega arith, (omega (arith, lp .loop .inv .1 .0, w .wide .ensures .1), (e ∙ total-more ps (lp .loop .i), fill-more (lp .loop .inv .1 .1 .1) (omega arith) (ap (λ (n : ℕ). n % 65536) (e ∙ total-pivot ps (lp .loop .i))))))
+    (omega arith, (omega (arith, lp .loop .inv .1 .0, w .wide .ensures .1), (e ∙ total-more ps (lp .loop .i), fill-more (lp .loop .inv .1 .1 .1) (omega arith) (v .narrow .ensures ∙ ap (λ (n : ℕ). min n 65535) (e ∙ total-pivot ps (lp .loop .i))))))
 
 returns : tie.Need-returns Inv-loop μ-loop
 returns c =

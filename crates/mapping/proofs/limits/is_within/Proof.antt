@@ -1,6 +1,5 @@
 -- `mapping::limits::is_within` meets its contract. Assumes nothing.
 use Prim.Native.Nat.{_^_}
-use native.Mathlib.Omega.{arith}
 use lib.IntN.{pos}
 use mir.Facts.{toZ-ofZ}
 use borrow.Author.Needs.{needs}

@@ -2,7 +2,7 @@
 use mathlib.Core.Path.{sym, ap, _∙_}
 use borrow.Author.Needs.{needs}
 use Prim.Native.Nat.{ℕ, _-_, _*_, _^_, _≤_}
-use native.Mathlib.Nat.{le-of-lt, le-trans, le-of-eq, mul-le-mul}
+use native.Mathlib.Nat.{le-trans, le-of-eq, mul-le-mul}
 use native.Mathlib.Omega.{arith}
 use lib.IntN.{natAbs}
 use mir.Syntax.{w64}
@@ -16,10 +16,10 @@ use Rattle.mapping.proofs.polynomial.sum_of.Tie as tie
 
 -- the two weights are at most 2 ^ 20
 one-le : (st : tie.Start) → st .args .s * 2 ^ (20 - st .args .depth) ≤ 2 ^ 20
-one-le st = le-trans (le-of-eq (sym (weight-one (st .args .depth) (st .args .s)))) (weight-le (st .args .depth) (st .args .s) 1 (le-of-lt (st .pre .sample)) (omega arith))
+one-le st = le-trans (le-of-eq (sym (weight-one (st .args .depth) (st .args .s)))) (weight-le (st .args .depth) (st .args .s) 1 (st .pre .sample) (omega arith))
 
 two-le : (st : tie.Start) → st .args .s * st .args .s * 2 ^ (20 - 2 * st .args .depth) ≤ 2 ^ 20
-two-le st = le-trans (le-of-eq (sym (weight-two (st .args .depth) (st .args .s)))) (weight-le (st .args .depth) (st .args .s) 2 (le-of-lt (st .pre .sample)) (omega arith))
+two-le st = le-trans (le-of-eq (sym (weight-two (st .args .depth) (st .args .s)))) (weight-le (st .args .depth) (st .args .s) 2 (st .pre .sample) (omega arith))
 
 -- each number on the way, and its bound
 row : (st : tie.Start) (i : ℕ) → Holds (ofZ w64 (coef (st .args .t3) i)) (coef (st .args .t3) i) (2 ^ 38)
@@ -79,11 +79,11 @@ sum-of-spec =
     tie.close
     (tie.spec
     (λ c. search needs)
-    (λ c κs. let st : tie.Start = search needs in (omega arith, one-le st))
+    (λ c κs. let st : tie.Start = search needs in (omega arith, omega (arith, one-le st)))
     mul-shifted
     (λ c. search needs)
     (λ c. search needs)
-    (λ c κs. let st : tie.Start = search needs in (omega arith, two-le st))
+    (λ c κs. let st : tie.Start = search needs in (omega arith, omega (arith, two-le st)))
     (λ c. search needs)
     mul-result
     (λ c. search needs)

@@ -1,43 +1,56 @@
--- `mapping::table::table_by` meets its contract: two loops in which the codes passed have their mapped samples. Assumes nothing.
-use mathlib.Core.Path.{_≡_, refl, ap, ap₂, _∙_}
+-- `mapping::table::table_by` meets its contract: the codes up to the pivot that was reached have their mapped samples. Assumes nothing.
+use mathlib.Core.Path.{_≡_, refl, ap, _∙_}
 use mathlib.Core.List.{List}
 use borrow.Author.Needs.{needs}
-use Prim.Native.Nat.{ℕ, _+_, _-_, _*_, _%_, _^_, _<_, _≤_}
+use Prim.Native.Nat.{ℕ, _+_, _-_, _*_, _%_, _^_, _<_, _≤_, min}
 use native.Mathlib.Nat.{lt-of-lt-of-le}
 use native.Mathlib.Omega.{arith}
-use lib.IntN.{ℤ}
-use lib.ListN.{length}
+use lib.ListN.{length-replicate}
 use lib.Pow.{pow-mono}
 use Rattle.runs.specs.inner.Loops.{at}
-use Rattle.runs.proofs.Tables.{Filled, fill-none, fill-more, fill-codes}
-use Rattle.standard.specs.Mapping.{clamped, poly-sum, cut}
-use Rattle.plan.specs.Rule7.{piece-places, pieces-used}
+use Rattle.runs.proofs.Tables.{Filled, fill-none, fill-painted, fill-codes}
+use Rattle.plan.specs.Rule7.{pieces-used}
 use Rattle.plan.proofs.Shifting.{one-shifted}
 use Rattle.steps.proofs.Small.{pivots-small}
-use Rattle.mapping.specs.inner.Steps.{coef, row-of, RowRanges, mapped-by, pivots-by}
-use Rattle.mapping.proofs.Meaning.{lowest, above-last}
-use Rattle.mapping.proofs.Stretches.{Stretch, no-stretch, stretch-more, stretched}
+use Rattle.mapping.specs.inner.Steps.{row-of, by-row, RowRanges, mapped-by, pivots-by, table-by}
+use Rattle.mapping.proofs.InOrder.{lowest, rises, below-first, in-piece, from-last}
 use Rattle.mapping.proofs.table.table_by.Statement.{statement}
 use Rattle.mapping.proofs.table.table_by.Tie as tie
 
 abbrev Inv-loop : tie.InvT-loop
-Inv-loop depth d n rows pivots first last codes below table₀ s₀ table s = (s ≤ below) × Filled 1024 (mapped-by depth d n pivots rows) s table
+Inv-loop depth d n rows pivots codes table₀ s₀ p₀ table s p =
+    (p ≤ n + 1) × ((s ≡ min (at pivots p) codes) × Filled 1024 (mapped-by depth d n pivots rows) s table)
 
 abbrev μ-loop : tie.MeasureT-loop
-μ-loop depth d n rows pivots first last codes below table₀ s₀ table s = below - s
-
--- what a code comes to by one row
-abbrev by-row : ℕ → ℕ → ℕ → ℕ → List ℤ → ℕ → ℕ
-by-row depth d first last row j = cut d (poly-sum depth (clamped first last j) (coef row) 2)
-
-abbrev Inv-loop2 : tie.InvT-loop2
-Inv-loop2 depth d n first last codes below table₀ s₀ row table s = (s ≤ codes) × Stretch (by-row depth d first last row) s₀ s table₀ table
-
-abbrev μ-loop2 : tie.MeasureT-loop2
-μ-loop2 depth d n first last codes below table₀ s₀ row table s = codes - s
+μ-loop depth d n rows pivots codes table₀ s₀ p₀ table s p = n + 1 - p
 
 abbrev Start : Type 0
-Start = tie.Start Inv-loop μ-loop Inv-loop2 μ-loop2
+Start = tie.Start Inv-loop μ-loop
+
+abbrev Pivots : Type 0
+Pivots = tie.After-pivots-of Inv-loop μ-loop
+
+abbrev In : Type 0
+In = tie.In-loop Inv-loop μ-loop
+
+abbrev End : Type 0
+End = tie.After-clamp Inv-loop μ-loop
+
+abbrev Past : Type 0
+Past = tie.After-loop Inv-loop μ-loop
+
+-- ways back
+abbrev start : Pivots → Start
+start v = search needs
+
+abbrev turn : In → Pivots
+turn il = search needs
+
+abbrev inside : End → In
+inside e = search needs
+
+abbrev before : Past → Pivots
+before c = search needs
 
 -- there are 2 ^ depth codes, and no more than places
 all : (s : Start) → (1 * 2 ^ s .args .depth) % 18446744073709551616 ≡ 2 ^ s .args .depth
@@ -46,140 +59,117 @@ all s = one-shifted (s .args .depth) (omega arith)
 few : (s : Start) → 2 ^ s .args .depth ≤ 1024
 few s = pow-mono {j = 10} (s .pre .shallow)
 
--- ways back
-abbrev Below : Type 0
-Below = tie.After-clamp Inv-loop μ-loop Inv-loop2 μ-loop2
-
-abbrev Pivots : Type 0
-Pivots = tie.After-pivots-of Inv-loop μ-loop Inv-loop2 μ-loop2
-
-abbrev First : Type 0
-First = tie.In-loop Inv-loop μ-loop Inv-loop2 μ-loop2
-
-abbrev Second : Type 0
-Second = tie.In-loop2 Inv-loop μ-loop Inv-loop2 μ-loop2
-
-abbrev start : Pivots → Start
-start c = search needs
-
-abbrev to-pivots : Below → Pivots
-to-pivots c = search needs
-
 -- the pivots are sums: predictions are small
 made : (v : Pivots) → v .pivots-of .result ≡ pivots-by (start v .args .preds)
 made v = let s = start v in v .pivots-of .ensures ∙ pivots-small (s .args .preds) (λ i. lt-of-lt-of-le (s .pre .pivot i) (few s))
 
--- the codes below the last pivot are codes
-first-code : (c : First) → c .before .loop .s < 2 ^ (start (to-pivots (search needs)) .args .depth)
-first-code c =
-    let b : Below = search needs in
-    let st = start (to-pivots b) in
-    omega (arith, c .loop-test, b .clamp .ensures, all st)
-
-second-code : (c : Second) → c .before .loop2 .s < 2 ^ (start (to-pivots (search needs)) .args .depth)
-second-code c =
-    let b : Below = search needs in
-    let st = start (to-pivots b) in
-    omega (arith, c .loop2-test, all st)
-
--- a code that is raised or lowered to the pivots is still one
-clamped-code : (v : Pivots) {s t : ℕ} → let a = start v .args in s < 2 ^ a .depth → t ≡ clamped (at (v .pivots-of .result) 0) (at (v .pivots-of .result) (a .n + 1)) s → t < 2 ^ a .depth
-clamped-code v b e =
-    let s = start v in
-    omega (arith, e, b, lowest (s .args .preds) (made v), s .pre .pivot 0)
+-- the first pivot is a code
+low : (v : Pivots) → at (v .pivots-of .result) 0 < 2 ^ start v .args .depth
+low v = let s = start v in omega (arith, lowest (s .args .preds) (made v), s .pre .pivot 0)
 
 -- what the mapping step asks, of the row of any piece that is used
-ranges : (v : Pivots) {s : ℕ} (p : ℕ) → let a = start v .args in p < pieces-used (a .n) → s < 2 ^ a .depth → (a .d ≤ 32) × RowRanges (a .depth) s (row-of (a .t5) p)
-ranges v p k b =
-    let s = start v in
-    (s .pre .denominator, record { shallow = s .pre .shallow; sample = b; coefficient = λ i. s .pre .coefficient p i k })
+ranges : (v : Pivots) (s p : ℕ) → let a = start v .args in p < pieces-used (a .n) → s ≤ 2 ^ a .depth → (a .d ≤ 32) × RowRanges (a .depth) s (row-of (a .t5) p)
+ranges v s p k b =
+    let st = start v in
+    (st .pre .denominator, record { shallow = st .pre .shallow; sample = b; coefficient = λ i. st .pre .coefficient p i k })
 
-piece-of-requires : tie.Need-piece-of-requires Inv-loop μ-loop Inv-loop2 μ-loop2
-piece-of-requires c κs =
-    let il : First = search needs in
-    let b : Below = search needs in
-    (start (to-pivots b) .pre .count, omega (arith, il .loop-test, b .clamp .ensures))
+loop-holds : tie.Need-loop-holds Inv-loop μ-loop
+loop-holds c =
+    let v : Pivots = search needs in
+    let m : tie.After-map-step Inv-loop μ-loop = search needs in
+    let a = start v .args in (
+      omega arith,
+      (
+        omega (arith, low v, all (start v)),
+        fill-painted _ (fill-none 1024 _ 0 (λ j h. absurd (omega arith))) (omega arith) (omega (arith, low v, few (start v))) (c .hold .ensures)
+            (λ j x y. m .map-step .ensures ∙ below-first (a .preds) (made v) (a .depth) (a .d) (a .n) (a .t5) (start v .pre .count) j y),
+      ),
+    )
 
-low : (c : tie.After-piece-of Inv-loop μ-loop Inv-loop2 μ-loop2) → c .piece-of .result < piece-places
-low c =
-    let b : Below = search needs in
-    omega (arith, c .piece-of .ensures .1, start (to-pivots b) .pre .count)
+-- a piece goes from where the one before it ended to its next pivot, or to the codes' end
+ends : (e : End) → let il = inside e in let v = turn il in (il .before .loop .s ≤ e .clamp .result) × (e .clamp .result ≤ 2 ^ start v .args .depth)
+ends e =
+    let il = inside e in
+    let v = turn il in
+    let p = il .before .loop .p in (
+      omega (arith, e .clamp .ensures, il .before .loop .inv .1 .0, rises (start v .args .preds) (made v) p (p + 1) (omega arith) (omega (arith, il .loop-test, start v .pre .count))),
+      omega (arith, e .clamp .ensures, all (start v)),
+    )
 
-map-step-requires : tie.Need-map-step-requires Inv-loop μ-loop Inv-loop2 μ-loop2
-map-step-requires c κs =
-    let il : First = search needs in
-    let b : Below = search needs in
-    let t : tie.After-clamp2 Inv-loop μ-loop Inv-loop2 μ-loop2 = search needs in
-    let p : tie.After-piece-of Inv-loop μ-loop Inv-loop2 μ-loop2 = search needs in
-    let v = to-pivots b in
-    ranges v (p .piece-of .result) (omega (arith, p .piece-of .ensures .1)) (clamped-code v (first-code il) (t .clamp2 .ensures))
+go-on-requires : tie.Need-go-on-requires Inv-loop μ-loop
+go-on-requires c κs =
+    let e : End = search needs in
+    let il = inside e in
+    let g = start (turn il) .pre in (
+      record {
+        shallow = g .shallow;
+        denominator = g .denominator;
+        ordered = ends e .0;
+        codes = ends e .1;
+        coefficient = λ i. g .coefficient (il .before .loop .p) i (omega (arith, il .loop-test));
+      },
+      il .before .loop .inv .1 .1 .long,
+    )
 
-loop-again : tie.Need-loop-again Inv-loop μ-loop Inv-loop2 μ-loop2
-unfolding mapped-by
+loop-again : tie.Need-loop-again Inv-loop μ-loop
 loop-again c =
-    let b : Below = search needs in
-    let s = start (to-pivots b) in
-    let lp : tie.At-loop Inv-loop μ-loop Inv-loop2 μ-loop2 = search needs in
-    let il : First = search needs in
-    let t : tie.After-clamp2 Inv-loop μ-loop Inv-loop2 μ-loop2 = search needs in
-    let p : tie.After-piece-of Inv-loop μ-loop Inv-loop2 μ-loop2 = search needs in
-    let a = s .args in (
-      omega arith,
-      fill-more (lp .loop .inv .1) (lt-of-lt-of-le (first-code il) (few s))
-          (c .map-step .ensures ∙ ap₂ (λ (x q : ℕ). cut (a .d) (poly-sum (a .depth) x (coef (row-of (a .t5) q)) 2)) (t .clamp2 .ensures) (p .piece-of .ensures .0)),
+    let e : End = search needs in
+    let il = inside e in
+    let v = turn il in
+    let st = start v in
+    let a = st .args in
+    let l = il .before .loop in (
+      omega (arith, il .loop-test),
+      (
+        omega (arith, e .clamp .ensures),
+        fill-painted _ (l .inv .1 .1) (ends e .0) (omega (arith, ends e .1, few st)) (c .go-on .ensures)
+            (λ j x y. in-piece (a .preds) (made v) (a .depth) (a .d) (a .n) (a .t5) (st .pre .count) (l .p) j (omega (arith, il .loop-test)) (omega (arith, l .inv .1 .0, e .clamp .ensures)) (omega (arith, e .clamp .ensures))),
+      ),
     )
 
-loop2-holds : tie.Need-loop2-holds Inv-loop μ-loop Inv-loop2 μ-loop2
-loop2-holds c =
-    let b : Below = search needs in
-    let lp : tie.At-loop Inv-loop μ-loop Inv-loop2 μ-loop2 = search needs in
-    (omega (arith, lp .loop .inv .0, b .clamp .ensures), no-stretch _ _ _)
+-- all pieces have their codes, up to the last pivot or all there are
+reached : (c : Past) → let v = before c in c .before .loop .s ≡ min (at (v .pivots-of .result) (start v .args .n + 1)) (2 ^ start v .args .depth)
+reached c =
+    let v = before c in
+    let l = c .before .loop in
+    let e : l .p ≡ start v .args .n + 1 = omega (arith, c .loop-test, l .inv .0) in
+    let same : l .s ≡ min (at (v .pivots-of .result) (l .p)) (2 ^ start v .args .depth) = omega (arith, l .inv .1 .0, all (start v)) in
+    same ∙ ap (λ (p : ℕ). min (at (v .pivots-of .result) p) (2 ^ start v .args .depth)) e
 
-map-step-requires-2 : tie.Need-map-step-requires-2 Inv-loop μ-loop Inv-loop2 μ-loop2
-map-step-requires-2 c κs =
-    let il : Second = search needs in
-    let b : Below = search needs in
-    let t : tie.After-clamp3 Inv-loop μ-loop Inv-loop2 μ-loop2 = search needs in
-    let v = to-pivots b in
-    ranges v (start v .args .n + 1) (omega arith) (clamped-code v (second-code il) (t .clamp3 .ensures))
+-- the table, filled as far as there are codes
+filled : (v : Pivots) {i : ℕ} {table : List ℕ} → let a = start v .args in i ≡ 2 ^ a .depth → Filled 1024 (mapped-by (a .depth) (a .d) (a .n) (v .pivots-of .result) (a .t5)) i table → table ≡ table-by (a .depth) (a .d) (a .n) (a .preds) (a .t5)
+filled v e h =
+    let a = start v .args in
+    fill-codes _ refl e h (λ j. ap (λ (l : List ℕ). mapped-by (a .depth) (a .d) (a .n) l (a .t5) j) (made v))
 
-long : (c : Second) → length (c .before .loop2 .table) ≡ 1024
-long c =
-    let lp : tie.At-loop Inv-loop μ-loop Inv-loop2 μ-loop2 = search needs in
-    c .before .loop2 .inv .1 .long ∙ lp .loop .inv .1 .long
+abbrev High : Type 0
+High = tie.Then1 Inv-loop μ-loop
 
-placed : (c : Second) → c .before .loop2 .s < 1024
-placed c =
-    let b : Below = search needs in
-    lt-of-lt-of-le (second-code c) (few (start (to-pivots b)))
+abbrev passed : High → Past
+passed t = search needs
 
-loop2-again : tie.Need-loop2-again Inv-loop μ-loop Inv-loop2 μ-loop2
-loop2-again c =
-    let b : Below = search needs in
-    let lp : tie.At-loop2 Inv-loop μ-loop Inv-loop2 μ-loop2 = search needs in
-    let il : Second = search needs in
-    let t : tie.After-clamp3 Inv-loop μ-loop Inv-loop2 μ-loop2 = search needs in
-    let a = start (to-pivots b) .args in (
-      omega arith,
-      stretch-more (lp .loop2 .inv .1) (rw (long il) (placed il))
-          (c .map-step2 .ensures ∙ ap (λ (x : ℕ). cut (a .d) (poly-sum (a .depth) x (coef (row-of (a .t5) (a .n + 1))) 2)) (t .clamp3 .ensures)),
-    )
+-- codes are left: the last pivot is one of them
+last-is : (t : High) → let v = before (passed t) in passed t .before .loop .s ≡ at (v .pivots-of .result) (start v .args .n + 1)
+last-is t = omega (arith, reached (passed t), t .if1 .taken, all (start (before (passed t))))
 
-returns : tie.Need-returns Inv-loop μ-loop Inv-loop2 μ-loop2
-unfolding mapped-by
+returns : tie.Need-returns Inv-loop μ-loop
 returns c =
-    let b : Below = search needs in
-    let v = to-pivots b in
-    let s = start v in
-    let one : tie.At-loop Inv-loop μ-loop Inv-loop2 μ-loop2 = search needs in
-    let end : tie.After-loop Inv-loop μ-loop Inv-loop2 μ-loop2 = search needs in
-    let two : tie.At-loop2 Inv-loop μ-loop Inv-loop2 μ-loop2 = search needs in
-    let a = s .args in
-    fill-codes _ refl (omega (arith, all s, two .loop2 .inv .0))
-    (stretched (one .loop .inv .1) (two .loop2 .inv .1)
-    (λ j p q. ap (λ (i : ℕ). cut (a .d) (poly-sum (a .depth) (clamped (at (v .pivots-of .result) 0) (at (v .pivots-of .result) (a .n + 1)) j) (coef (row-of (a .t5) i)) 2))
-    (above-last (a .preds) (a .n) j (made v) (s .pre .count) (omega (arith, b .clamp .ensures, end .loop-test, two .loop2 .inv .0)))))
-    (λ j. ap (λ (l : List ℕ). mapped-by (a .depth) (a .d) (a .n) l (a .t5) j) (made v))
+    let t : High = search needs in
+    let m : tie.After-map-step2 Inv-loop μ-loop = search needs in
+    let v = before (passed t) in
+    let st = start v in
+    let a = st .args in
+    let l = passed t .before .loop in
+    filled v (all st)
+    (fill-painted _ (l .inv .1 .1) (omega (arith, t .if1 .taken)) (omega (arith, all st, few st)) (c .hold2 .ensures)
+    (λ j x y. m .map-step2 .ensures ∙ ap (by-row (a .depth) (a .d) (row-of (a .t5) (a .n + 1))) (last-is t)
+    ∙ from-last (a .preds) (made v) (a .depth) (a .d) (a .n) (a .t5) (st .pre .count) j (omega (arith, last-is t))))
+
+returns-2 : tie.Need-returns-2 Inv-loop μ-loop
+returns-2 c =
+    let p : Past = search needs in
+    let v = before p in
+    filled v (omega (arith, reached p, c .if1 .left, all (start v))) (p .before .loop .inv .1 .1)
 
 pub table-by-spec : {M : Type 1} → statement M
 table-by-spec =
@@ -187,38 +177,28 @@ table-by-spec =
     (tie.spec
     Inv-loop
     μ-loop
-    Inv-loop2
-    μ-loop2
     (λ c κs. search needs)
-    (λ c. search needs)
-    (λ c. let s : Start = search needs in omega (arith, s .pre .count))
-    (λ c. let s : Start = search needs in omega (arith, s .pre .count))
-    (λ c. let s : Start = search needs in omega (arith, s .pre .count))
     (λ c. let s : Start = search needs in omega (arith, s .pre .shallow))
     (λ c. let s : Start = search needs in omega (arith, all s, few s))
+    (λ c. search needs)
+    (λ c. search needs)
+    (λ c κs. let v : Pivots = search needs in ranges v _ 0 (omega arith) (omega (arith, low v)))
+    (λ c κs. let v : Pivots = search needs in (omega arith, omega (arith, low v, few (start v)), length-replicate {A = ℕ} 1024 0))
+    loop-holds
+    (λ c. let il : In = search needs in omega (arith, il .loop-test, start (turn il) .pre .count))
+    (λ c. let il : In = search needs in omega (arith, il .loop-test, start (turn il) .pre .count))
+    (λ c. let il : In = search needs in omega (arith, il .loop-test, start (turn il) .pre .count))
     (λ c κs. search needs)
-    (λ c. (omega arith, fill-none 1024 _ 0 (λ j h. omega arith)))
-    (λ c κs. search needs)
-    piece-of-requires
-    (λ c. let p : tie.After-piece-of Inv-loop μ-loop Inv-loop2 μ-loop2 = search needs in omega (arith, low p))
-    (λ c. let p : tie.After-piece-of Inv-loop μ-loop Inv-loop2 μ-loop2 = search needs in omega (arith, low p))
-    map-step-requires
-    (λ c. omega arith)
-    (λ c. let il : First = search needs in let b : Below = search needs in omega (arith, first-code il, few (start (to-pivots b))))
-    (λ c. let il : First = search needs in let b : Below = search needs in omega (arith, first-code il, few (start (to-pivots b)), il .before .loop .inv .1 .long))
-    (λ c. let il : First = search needs in omega (arith, il .loop-test))
-    (λ c. omega arith)
+    (λ c. let e : End = search needs in omega (arith, inside e .loop-test, start (turn (inside e)) .pre .count))
+    (λ c. let e : End = search needs in omega (arith, inside e .loop-test, start (turn (inside e)) .pre .count))
+    go-on-requires
+    (λ c. let e : End = search needs in omega (arith, inside e .loop-test, start (turn (inside e)) .pre .count))
+    (λ c. let e : End = search needs in omega (arith, inside e .loop-test))
     loop-again
-    (λ c. let b : Below = search needs in omega (arith, start (to-pivots b) .pre .count))
-    (λ c. let b : Below = search needs in omega (arith, start (to-pivots b) .pre .count))
-    (λ c. let b : Below = search needs in omega (arith, start (to-pivots b) .pre .count))
-    loop2-holds
-    (λ c κs. search needs)
-    map-step-requires-2
-    (λ c. omega arith)
-    (λ c. let il : Second = search needs in omega (arith, placed il))
-    (λ c. let il : Second = search needs in omega (arith, placed il, long il))
-    (λ c. let il : Second = search needs in omega (arith, placed il))
-    (λ c. omega arith)
-    loop2-again
-    returns)
+    (λ c. let t : High = search needs in omega (arith, start (before (passed t)) .pre .count))
+    (λ c. let t : High = search needs in omega (arith, start (before (passed t)) .pre .count))
+    (λ c. let t : High = search needs in omega (arith, start (before (passed t)) .pre .count))
+    (λ c κs. let t : High = search needs in ranges (before (passed t)) _ _ (omega arith) (omega (arith, t .if1 .taken, all (start (before (passed t))))))
+    (λ c κs. let t : High = search needs in (omega (arith, t .if1 .taken), omega (arith, all (start (before (passed t))), few (start (before (passed t)))), passed t .before .loop .inv .1 .1 .long))
+    returns
+    returns-2)

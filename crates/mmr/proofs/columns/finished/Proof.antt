@@ -13,14 +13,14 @@ returns : tie.Need-returns
 unfolding finished-by
 returns c =
     let st : tie.Start = search needs in
-    let m : tie.After-mapped = search needs in
+    let m : tie.After-step-of = search needs in
     let a = st .args in
-    c .cut-out .ensures ∙ ap (λ (v : ℕ). cut-of (a .cut) (v + entry (a .raised .now) (at (a .enhancement .now) (a .j)))) (m .mapped .ensures)
+    c .cut-out .ensures ∙ ap (λ (v : ℕ). cut-of (a .cut) (v + entry (a .raised .now) (at (a .enhancement .now) (a .j)))) (m .step-of .ensures)
 
 pub finished-spec : {M : Type 1} → statement M
 finished-spec =
     tie.close
     (tie.spec
-    (λ c. search needs) (λ c. search needs) (λ c κs. search needs) (λ c. search needs) (λ c. search needs)
-    (λ c. search needs) (λ c. search needs) (λ c. search needs) (λ c κs. search needs)
+    (λ c κs. search needs) (λ c. search needs) (λ c. search needs) (λ c. search needs) (λ c. search needs)
+    (λ c. search needs) (λ c κs. search needs)
     returns)

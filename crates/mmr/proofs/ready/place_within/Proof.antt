@@ -1,10 +1,10 @@
 -- `mmr::ready::place_within` meets its contract. Assumes nothing.
-use mathlib.Core.Path.{_≡_, _∙_}
+use mathlib.Core.Path.{_∙_}
 use Prim.Native.Nat.{_^_}
 use lib.IntN.{pos, negℤ, +ℤ-idl}
 use mir.Facts.{toZ-ofZ}
 use borrow.Author.Needs.{needs}
-use Rattle.words.proofs.Holding.{Holds, number, literal, fit, sub, sub-asked}
+use Rattle.words.proofs.Holding.{Holds, number, literal, sub, sub-asked}
 use Rattle.plan.proofs.Testing.{zero-test}
 use Rattle.mmr.proofs.Within.{between-limits}
 use Rattle.mmr.proofs.ready.place_within.Statement.{statement}

@@ -1,6 +1,6 @@
 -- `mmr::ready::wide_most` meets its contract: nothing is shifted out. Assumes nothing.
 use mathlib.Core.Path.{_≡_}
-use Prim.Native.Nat.{_*_, _%_, _^_, _≤_}
+use Prim.Native.Nat.{_%_, _^_, _≤_}
 use native.Mathlib.Nat.{mod-eq-of-lt, le-trans, le-of-eq, mul-le-mul-left}
 use native.Mathlib.Omega.{arith}
 use lib.Pow.{pow-mono}

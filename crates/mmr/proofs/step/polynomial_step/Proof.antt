@@ -1,14 +1,11 @@
 -- `mmr::step::polynomial_step` meets its contract: every number on the way is a word that holds it, within a bound. Assumes nothing.
 use borrow.Author.Needs.{needs}
 use mathlib.Core.Path.{ap, _∙_}
-use Prim.Native.Nat.{ℕ, _^_, _≤_}
-use native.Mathlib.Nat.{le-trans, le-of-eq}
-use native.Mathlib.Omega.{arith}
+use Prim.Native.Nat.{ℕ, _^_}
 use lib.IntN.{ℤ, pos, _+ℤ_, _*ℤ_}
 use mir.Syntax.{w64}
 use mir.Val.{ofZ}
-use mir.Facts.{toZ-ofZ}
-use Rattle.words.proofs.Holding.{Holds, bounded, number, literal, fit, add, add-asked, mul, mul-asked}
+use Rattle.words.proofs.Holding.{Holds, bounded, number, literal, add, add-asked, mul, mul-asked}
 use Rattle.steps.specs.inner.Steps.{cut-by}
 use Rattle.steps.proofs.Small.{is-cut}
 use Rattle.mmr.specs.inner.Apart.{coef, narrow-most}

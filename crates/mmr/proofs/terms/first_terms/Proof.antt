@@ -1,6 +1,4 @@
 use borrow.Author.Needs.{needs}
-use native.Mathlib.Nat.{le-of-lt}
-use native.Mathlib.Omega.{arith}
 use Rattle.mmr.proofs.Listing.{first-agreed}
 use Rattle.mmr.proofs.terms.first_terms.Statement.{statement}
 use Rattle.mmr.proofs.terms.first_terms.Tie as tie
