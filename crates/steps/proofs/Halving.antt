@@ -2,10 +2,11 @@
 use mathlib.Core.Path.{_≡_, refl, ap}
 use mathlib.Core.Bool.{Bool, true, false, cond}
 use mathlib.Core.List.{List, [], _∷_}
-use Prim.Native.Nat.{ℕ, zero, suc, _+_, _<_, _≤_, min}
-use native.Mathlib.Nat.{le-trans, lt-of-lt-of-le}
+use Prim.Native.Nat.{ℕ, zero, suc, _+_, _*_, _<_, _≤_, min}
+use native.Mathlib.Nat.{le-trans, lt-of-lt-of-le, mul-zero, mul-one}
 use native.Mathlib.Omega.{arith}
 use lib.Dec.{leb}
+use mir.Val.{boolByte}
 use borrow.Author.Tests.{leb-true, leb-false}
 use Rattle.runs.specs.inner.Loops.{at}
 use Rattle.runs.proofs.Tables.{at-table}
@@ -19,7 +20,15 @@ use Rattle.steps.specs.inner.Steps.{pivot-table, passed, halved, halves,
 pub table-rises : (preds : List ℕ) → Rising (at (pivot-table preds))
 table-rises preds i k h b = rw (at-table pivot-places _ i (omega arith), at-table pivot-places _ k b) (omega (arith, rising (at preds) i k h))
 
--- ---- the comparisons of the code, one after the other
+-- ---- the comparisons of the code: each is 1 or 0, and one comes after the other
+pub as-number : (t : Bool) (low half : ℕ) → low + half * boolByte t ≡ cond t (low + half) low
+as-number true low half = ap (λ (n : ℕ). low + n) (mul-one half)
+as-number false low half = omega (arith, mul-zero half)
+
+pub number-le : (t : Bool) (half : ℕ) → half * boolByte t ≤ half
+number-le true half = omega (arith, mul-one half)
+number-le false half = omega (arith, mul-zero half)
+
 module _ (pivot : ℕ → ℕ) (n s : ℕ) where
   pub by-one : n ≡ 0 → passed pivot s 0 1 ≡ found pivot n s
   unfolding found halved

@@ -36,16 +36,13 @@ pub fn pivots_of(preds: [u16; PIVOTS]) -> [u16; PIVOTS]
     pivots
 }
 
-// One comparison: a pivot that is not greater than the sample is passed, and so are those before it.
+// One comparison: a pivot that is not greater than the sample is passed, and so are those before it. Its answer enters as a
+// number: of an `if` the compiler makes a branch for x86-64, which no processor can guess.
 fn passed(pivots: &[u16; PIVOTS], s: u16, low: usize, half: usize) -> usize
     requires { ⌜ low + half < pivot-places ⌝ }
     ensures { λ r. ⌜ (r ≡ passed (at (now (pivots .entry))) s low half) × (r ≤ low + half) ⌝ }
 {
-    if pivots[low + half] <= s {
-        low + half
-    } else {
-        low
-    }
+    low + half * ((pivots[low + half] <= s) as usize)
 }
 
 // The piece of a sample that is not clamped yet: the first whose next pivot is greater, or n + 1. Pivots rise, so it is the
