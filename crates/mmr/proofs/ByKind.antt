@@ -1,16 +1,16 @@
 -- What a piece of each kind comes to, and that the step of the piece that was found maps a sample. Assumes nothing.
 use mathlib.Core.Path.{_≡_, refl, ap, _∙_}
 use mathlib.Core.List.{List}
-use Prim.Native.Nat.{ℕ, _+_, _*_, _<_}
+use Prim.Native.Nat.{ℕ, _+_, _*_, _<_, _≤_}
 use native.Mathlib.Omega.{arith}
 use lib.IntN.{ℤ}
 use borrow.Author.Tests.{ne-eqb}
 use Rattle.runs.specs.inner.Loops.{at}
 use Rattle.standard.specs.Mapping.{pivot-idx, cut}
 use Rattle.standard.proofs.Pieces.{idx-le}
+use Rattle.plan.specs.Ranges.{most-n}
 use Rattle.plan.specs.Rule7.{piece-places}
-use Rattle.steps.specs.inner.Steps.{found}
-use Rattle.steps.proofs.Halving.{is-found}
+use Rattle.steps.specs.inner.Steps.{Rising}
 use Rattle.mmr.specs.declared.columns.Format.{Format}
 use Rattle.mmr.specs.inner.Apart.{coef, whole-sum}
 use Rattle.mmr.specs.inner.Terms.{Agreed}
@@ -35,11 +35,14 @@ module _ (order d : ℕ) {kind : ℕ} (row : List ℤ) (t : ℕ) (ts : List ℕ)
   unfolding piece-value
   as-none p q r = rw (ne-eqb kind polynomial-kind p, ne-eqb kind narrow-kind q, ne-eqb kind wide-kind r)
 
--- ---- the piece that was found
-module _ {d : ℕ} (c : Side) (g : SideGiven d c) (s : ℕ) {p : ℕ} (e : p ≡ found (at (c .pivots)) (c .n) s) where
+-- ---- the piece that was found, as the search promises it
+abbrev pub Searched : Side → ℕ → ℕ → Type 0
+Searched c s p = Rising (at (c .pivots)) → c .n ≤ most-n → p ≡ pivot-idx (at (c .pivots)) (c .n) s
+
+module _ {d : ℕ} (c : Side) (g : SideGiven d c) (s : ℕ) {p : ℕ} (e : Searched c s p) where
   -- the pivots rise, so it is the sample's
   is-piece : p ≡ pivot-idx (at (c .pivots)) (c .n) s
-  is-piece = e ∙ is-found (at (c .pivots)) (c .n) s (g .rising) (g .few)
+  is-piece = e (g .rising) (g .few)
 
   pub piece-in : p < piece-places
   piece-in = omega (arith, is-piece, idx-le (at (c .pivots)) (c .n) s, g .few)
@@ -62,7 +65,7 @@ module _ {f : Format} (format : FormatGiven f) (c : Side) (g : SideGiven (f .d) 
       }
 
   -- it maps the sample
-  pub step-maps : (s : ℕ) {p : ℕ} → p ≡ found (at (c .pivots)) (c .n) s → own < 8 → piece-value (f .order) (f .d) (at (c .kinds) p) (row-of c p) t ts ≡ mapped-side (f .order) (f .d) c s (at us own) us
+  pub step-maps : (s : ℕ) {p : ℕ} → Searched c s p → own < 8 → piece-value (f .order) (f .d) (at (c .kinds) p) (row-of c p) t ts ≡ mapped-side (f .order) (f .d) c s (at us own) us
   unfolding mapped-side
   step-maps s {p} e first =
       let value = piece-value (f .order) (f .d) in

@@ -22,7 +22,6 @@ use Rattle.plan.specs.Rule7.{pieces-used, fitting}
 use Rattle.plan.specs.inner.Facts.{ComponentFacts}
 use Rattle.plan.proofs.Facts.{header-facts, component-facts, y-usable, cb-usable, cr-usable}
 use Rattle.plan.proofs.Truths.{both}
-use Rattle.steps.specs.inner.Steps.{found}
 use Rattle.mmr.specs.declared.columns.Format.{Format}
 use Rattle.mmr.specs.inner.Terms.{Agreed}
 use Rattle.mmr.specs.inner.Steps.{Side, row-of, piece-value, SideGiven}
@@ -30,13 +29,13 @@ use Rattle.mmr.specs.inner.Columns.{FormatGiven}
 use Rattle.mmr.specs.inner.Ready.{Highest}
 use Rattle.mmr.specs.inner.Chroma.{format-of, numbers-fit, PlanReady, FormatFor, ReadySide}
 use Rattle.mmr.specs.inner.Slice.{sliced, own, slice-terms, slice-of, slice-table, slice-by, SliceGiven}
-use Rattle.mmr.proofs.ByKind.{step-maps}
+use Rattle.mmr.proofs.ByKind.{Searched, step-maps}
 use Rattle.mmr.proofs.Prepared.{ready-maps}
 use Rattle.mmr.proofs.Whole.{ready-header, cb-few, cr-few}
 use Rattle.mmr.proofs.Meaning.{cb-means, cr-means}
 
 -- ---- one code: by the piece that was found, and terms that were made up to an order
-pub slice-found : (f : Format) → FormatGiven f → (c : Side) → SideGiven (f .d) c → (cr : Bool) (s : ℕ) {p t : ℕ} (ts : List ℕ) → t ≡ at ts (own cr) → Agreed (7 * f .order + 1) ts (slice-terms f cr s) → p ≡ found (at (c .pivots)) (c .n) s → piece-value (f .order) (f .d) (at (c .kinds) p) (row-of c p) t ts ≡ slice-by f c cr s
+pub slice-found : (f : Format) → FormatGiven f → (c : Side) → SideGiven (f .d) c → (cr : Bool) (s : ℕ) {p t : ℕ} (ts : List ℕ) → t ≡ at ts (own cr) → Agreed (7 * f .order + 1) ts (slice-terms f cr s) → Searched c s p → piece-value (f .order) (f .d) (at (c .kinds) p) (row-of c p) t ts ≡ slice-by f c cr s
 unfolding slice-by
 slice-found f format c g cr s ts is-own a e = step-maps format c g (own cr) ts (slice-terms f cr s) is-own a s e (first cr)
   where

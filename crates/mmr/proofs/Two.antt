@@ -15,13 +15,12 @@ use Rattle.runs.specs.inner.Loops.{at}
 use Rattle.runs.proofs.Between.{between-empty, between-more}
 use Rattle.runs.proofs.Painting.{length-painted, at-painted, is-painted, painted-none, painted-cong}
 use Rattle.sums.specs.declared.Cut.{Cut}
-use Rattle.steps.specs.inner.Steps.{found}
 use Rattle.mmr.specs.declared.columns.Format.{Format}
 use Rattle.mmr.specs.declared.columns.Place.{Place}
 use Rattle.mmr.specs.inner.Terms.{Agreed}
 use Rattle.mmr.specs.inner.Steps.{Side, row-of, piece-value, mapped-side, SideGiven}
 use Rattle.mmr.specs.inner.Columns.{Both, finished-by, cb-column, cr-column, row-value, two-rows, FormatGiven, BothGiven, column-terms}
-use Rattle.mmr.proofs.ByKind.{step-maps}
+use Rattle.mmr.proofs.ByKind.{Searched, step-maps}
 
 -- a value stored over a painting is painted too
 pub painted-set : (s : ℕ → Bool) (f : ℕ → ℕ) (l : List ℕ) (j v : ℕ) → j < length l → v ≡ f j → set (painted s f l) j v ≡ painted (λ i. s i || eqb i j) f l
@@ -61,7 +60,7 @@ module _ (p : Place) (g : ℕ → ℕ) (l : List ℕ) where
 
 -- a sample at index j, which is k: by the step of the piece that was found it is finished as it is mapped
 module _ {f : Format} (format : FormatGiven f) (c : Side) (g : SideGiven (f .d) c) (own : ℕ) (ts us : List ℕ) (a : Agreed (7 * f .order + 1) ts us) (first : own < 8) where
-  finished-side : (cut : Cut) (raised base enhancement : List ℕ) {j k p : ℕ} → j ≡ k → p ≡ found (at (c .pivots)) (c .n) (at base j) → finished-by cut (piece-value (f .order) (f .d) (at (c .kinds) p) (row-of c p) (at ts own) ts) raised enhancement j ≡ finished-by cut (mapped-side (f .order) (f .d) c (at base k) (at us own) us) raised enhancement k
+  finished-side : (cut : Cut) (raised base enhancement : List ℕ) {j k p : ℕ} → j ≡ k → Searched c (at base j) p → finished-by cut (piece-value (f .order) (f .d) (at (c .kinds) p) (row-of c p) (at ts own) ts) raised enhancement j ≡ finished-by cut (mapped-side (f .order) (f .d) c (at base k) (at us own) us) raised enhancement k
   finished-side cut raised base enhancement e q =
       ap₂ (λ (v i : ℕ). finished-by cut v raised enhancement i)
       (step-maps format c g own ts us refl a _ q first ∙ ap (λ (i : ℕ). mapped-side (f .order) (f .d) c (at base i) (at us own) us) e)
@@ -69,14 +68,14 @@ module _ {f : Format} (format : FormatGiven f) (c : Side) (g : SideGiven (f .d) 
 
 -- what is finished at the indices of a column belongs there
 module _ (f : Format) (b : Both) (g : BothGiven f b) (cut : Cut) (p : Place) (base enhancement : List ℕ) (apart : p .cb + p .columns ≤ p .cr) (i : ℕ) (few : i < p .columns) (ts : List ℕ) (a : Agreed (7 * f .order + 1) ts (column-terms f p base i)) {j q : ℕ} where
-  pub at-cb : j ≡ p .cb + i → q ≡ found (at (b .cb .pivots)) (b .cb .n) (at base j) → finished-by cut (piece-value (f .order) (f .d) (at (b .cb .kinds) q) (row-of (b .cb) q) (at ts 2) ts) (b .cb-raised) enhancement j ≡ row-value f b cut p base enhancement (p .cb + i)
+  pub at-cb : j ≡ p .cb + i → Searched (b .cb) (at base j) q → finished-by cut (piece-value (f .order) (f .d) (at (b .cb .kinds) q) (row-of (b .cb) q) (at ts 2) ts) (b .cb-raised) enhancement j ≡ row-value f b cut p base enhancement (p .cb + i)
   unfolding row-value cb-column
   at-cb e is =
       let h : p .cb + i < p .cr = omega arith in
       finished-side (g .format) (b .cb) (g .cb) 2 ts _ a (omega arith) cut (b .cb-raised) base enhancement e is
       ∙ rw (lt-ltb (p .cb + i) (p .cr) h) (sym (ap (cb-column f b cut p base enhancement) (add-sub-cancel-left (p .cb) i)))
 
-  pub at-cr : j ≡ p .cr + i → q ≡ found (at (b .cr .pivots)) (b .cr .n) (at base j) → finished-by cut (piece-value (f .order) (f .d) (at (b .cr .kinds) q) (row-of (b .cr) q) (at ts 3) ts) (b .cr-raised) enhancement j ≡ row-value f b cut p base enhancement (p .cr + i)
+  pub at-cr : j ≡ p .cr + i → Searched (b .cr) (at base j) q → finished-by cut (piece-value (f .order) (f .d) (at (b .cr .kinds) q) (row-of (b .cr) q) (at ts 3) ts) (b .cr-raised) enhancement j ≡ row-value f b cut p base enhancement (p .cr + i)
   unfolding row-value cr-column
   at-cr e is =
       let h : p .cr ≤ p .cr + i = omega arith in

@@ -4,9 +4,10 @@ use plan::limits::PIVOTS;
 ghost use mathlib.Core.Path.{_≡_};
 ghost use Prim.Native.Nat.{_+_, _<_, _≤_, min};
 ghost use Rattle.runs.specs.inner.Loops.{at};
+ghost use Rattle.plan.specs.Ranges.{most-n};
 ghost use Rattle.plan.specs.Rule7.{pivot-places};
-ghost use Rattle.standard.specs.Mapping.{clamped};
-ghost use Rattle.steps.specs.inner.Steps.{pivot-table, passed, found, cut-by};
+ghost use Rattle.standard.specs.Mapping.{pivot-idx, clamped};
+ghost use Rattle.steps.specs.inner.Steps.{Rising, pivot-table, passed, found, cut-by};
 
 fn wide(x: u16) -> u32
     ensures { λ r. ⌜ (r ≡ x) × (r ≤ 65535) ⌝ }
@@ -50,7 +51,8 @@ fn passed(pivots: &[u16; PIVOTS], s: u16, low: usize, half: usize) -> usize
 // Places above the last pivot in use are compared too: a loop that goes by their number is slower. One piece takes one
 // comparison.
 pub fn piece_of(pivots: &[u16; PIVOTS], n: usize, s: u16) -> usize
-    ensures { λ r. ⌜ r ≡ found (at (now (pivots .entry))) n s ⌝ }
+    ensures is { λ r. ⌜ r ≡ found (at (now (pivots .entry))) n s ⌝ }
+    ensures piece { λ r. ⌜ (Rising (at (now (pivots .entry))) → n ≤ most-n → r ≡ pivot-idx (at (now (pivots .entry))) n s) ⌝ }
 {
     if n == 0 {
         return passed(pivots, s, 0, 1);

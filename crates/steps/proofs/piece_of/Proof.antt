@@ -1,18 +1,24 @@
 -- `steps::piece_of` meets its contract: each comparison begins where the one before it ended. Assumes nothing.
 use borrow.Author.Needs.{needs}
 use mathlib.Core.Path.{_≡_, _∙_}
-use Prim.Native.Nat.{_+_, min}
+use Prim.Native.Nat.{ℕ, _+_, _≤_, min}
 use native.Mathlib.Omega.{arith}
 use Rattle.runs.specs.inner.Loops.{at}
-use Rattle.steps.specs.inner.Steps.{found}
-use Rattle.steps.proofs.Halving.{by-one, by-five}
+use Rattle.plan.specs.Ranges.{most-n}
+use Rattle.standard.specs.Mapping.{pivot-idx}
+use Rattle.steps.specs.inner.Steps.{Rising, found}
+use Rattle.steps.proofs.Halving.{by-one, by-five, is-found}
 use Rattle.steps.proofs.piece_of.Statement.{statement}
 use Rattle.steps.proofs.piece_of.Tie as tie
+
+-- what was found is the piece, where pivots rise
+meant : (st : tie.Start) {r : ℕ} → let a = st .args in r ≡ found (at (a .pivots .now)) (a .n) (a .s) → (r ≡ found (at (a .pivots .now)) (a .n) (a .s)) × (Rising (at (a .pivots .now)) → a .n ≤ most-n → r ≡ pivot-idx (at (a .pivots .now)) (a .n) (a .s))
+meant st e = let a = st .args in (e, λ rises few. e ∙ is-found (at (a .pivots .now)) (a .n) (a .s) rises few)
 
 returns : tie.Need-returns
 returns c =
     let st : tie.Start = search needs in
-    c .passed .ensures .0 ∙ by-one (at (st .args .pivots .now)) (st .args .n) (st .args .s) (c .before .if1 .taken)
+    meant st (c .passed .ensures .0 ∙ by-one (at (st .args .pivots .now)) (st .args .n) (st .args .s) (c .before .if1 .taken))
 
 -- what is passed in all
 all-is : (c : tie.After-passed6) → let st : tie.Start = search needs in min (c .passed6 .result) (st .args .n + 1) ≡ found (at (st .args .pivots .now)) (st .args .n) (st .args .s)
@@ -27,13 +33,15 @@ all-is c =
 
 returns-2 : tie.Need-returns-2
 returns-2 c =
+    let st : tie.Start = search needs in
     let p : tie.After-passed6 = search needs in
-    omega (arith, all-is p, c .if2 .taken)
+    meant st (omega (arith, all-is p, c .if2 .taken))
 
 returns-3 : tie.Need-returns-3
 returns-3 c =
+    let st : tie.Start = search needs in
     let p : tie.After-passed6 = search needs in
-    omega (arith, all-is p, c .if2 .left)
+    meant st (omega (arith, all-is p, c .if2 .left))
 
 pub piece-of-spec : {M : Type 1} → statement M
 piece-of-spec =

@@ -89,10 +89,10 @@ cr-at c n g = let i : In = search needs in omega (arith, c .index-of2 .ensures, 
 
 -- the pieces have places in the arrays
 cb-piece : (c : FirstPiece) → c .piece-of .result < piece-places
-cb-piece c = let i : In = search needs in let st = start i in piece-in (given st .cb) (st .pre .0 .cb) _ (c .piece-of .ensures)
+cb-piece c = let i : In = search needs in let st = start i in piece-in (given st .cb) (st .pre .0 .cb) _ (c .piece-of .ensures .1)
 
 cr-piece : (c : SecondPiece) → c .piece-of2 .result < piece-places
-cr-piece c = let i : In = search needs in let st = start i in piece-in (given st .cr) (st .pre .0 .cr) _ (c .piece-of2 .ensures)
+cr-piece c = let i : In = search needs in let st = start i in piece-in (given st .cr) (st .pre .0 .cr) _ (c .piece-of2 .ensures .1)
 
 finished-requires : tie.Need-finished-requires Inv-loop μ-loop
 finished-requires c κs =
@@ -119,7 +119,7 @@ cb-is c =
     let st = start i in
     let a = st .args in
     c .finished .ensures
-    ∙ at-cb (a .f) (given st) (st .pre .0) (a .cut) (a .p) (a .base .now) (a .enhancement .now) (st .pre .1 .0 .apart) (i .before .loop .i) (few i) _ (t .column-terms .ensures) (first t .index-of .ensures) (p .piece-of .ensures)
+    ∙ at-cb (a .f) (given st) (st .pre .0) (a .cut) (a .p) (a .base .now) (a .enhancement .now) (st .pre .1 .0 .apart) (i .before .loop .i) (few i) _ (t .column-terms .ensures) (first t .index-of .ensures) (p .piece-of .ensures .1)
 
 cr-is : (c : tie.After-finished2 Inv-loop μ-loop) → let i : In = search needs in let st = start i in c .finished2 .result ≡ value st (st .args .p .cr + i .before .loop .i)
 cr-is c =
@@ -129,7 +129,7 @@ cr-is c =
     let st = start i in
     let a = st .args in
     c .finished2 .ensures
-    ∙ at-cr (a .f) (given st) (st .pre .0) (a .cut) (a .p) (a .base .now) (a .enhancement .now) (st .pre .1 .0 .apart) (i .before .loop .i) (few i) _ (t .column-terms .ensures) (second t .index-of2 .ensures) (p .piece-of2 .ensures)
+    ∙ at-cr (a .f) (given st) (st .pre .0) (a .cut) (a .p) (a .base .now) (a .enhancement .now) (st .pre .1 .0 .apart) (i .before .loop .i) (few i) _ (t .column-terms .ensures) (second t .index-of2 .ensures) (p .piece-of2 .ensures .1)
 
 store-both-requires : tie.Need-store-both-requires Inv-loop μ-loop
 store-both-requires c κs =

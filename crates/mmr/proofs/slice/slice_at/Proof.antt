@@ -16,7 +16,7 @@ given st = let a = st .args in side (a .n) (a .pivots .now) (a .kinds .now) (a .
 
 -- the piece has a place in the arrays
 inside : (c : tie.After-piece-of) → c .piece-of .result < piece-places
-inside c = let st : tie.Start = search needs in piece-in (given st) (st .pre .1) (st .args .s) (c .piece-of .ensures)
+inside c = let st : tie.Start = search needs in piece-in (given st) (st .pre .1) (st .args .s) (c .piece-of .ensures .1)
 
 step-by-value-requires : tie.Need-step-by-value-requires
 step-by-value-requires c κs =
@@ -34,7 +34,7 @@ returns c =
     let p : tie.After-piece-of = search needs in
     let a = st .args in
     c .step-by-value .ensures
-    ∙ slice-found (a .f) (st .pre .0) (given st) (st .pre .1) (a .cr) (a .s) (l .slice-terms .result) (t .own-term .ensures) (l .slice-terms .ensures) (p .piece-of .ensures)
+    ∙ slice-found (a .f) (st .pre .0) (given st) (st .pre .1) (a .cr) (a .s) (l .slice-terms .result) (t .own-term .ensures) (l .slice-terms .ensures) (p .piece-of .ensures .1)
 
 pub slice-at-spec : {M : Type 1} → statement M
 slice-at-spec =
