@@ -2,7 +2,7 @@
 use mathlib.Core.Path.{_≡_, refl, sym, ap, ap₂, _∙_}
 use mathlib.Core.List.{List}
 use Prim.Native.Nat.{ℕ, _+_, _-_, _*_, _^_, _≤_}
-use native.Mathlib.Nat.{le-trans, mul-assoc, add-mul, mul-add, mul-le-mul}
+use native.Mathlib.Nat.{le-trans, mul-assoc, one-mul, add-mul, mul-add, mul-le-mul}
 use native.Mathlib.Omega.{arith}
 use lib.IntN.{ℤ, pos, natAbs, _+ℤ_, _*ℤ_, +ℤ-assoc}
 use lib.Pow.{pow-pos, pow-add, pow-mono}
@@ -29,27 +29,27 @@ module _ (depth : ℕ) (row : List ℤ) (s : ℕ) where
       let two = pos (s * s * v) in
       let c = coef row in
       ap (λ (z : ℤ). z +ℤ growth depth row s) (sym (three-terms depth s c one two refl refl))
-      ∙ swap-terms (c 0 *ℤ pos (2 ^ 20) +ℤ c 1 *ℤ one) (c 2 *ℤ two) (c 1 *ℤ pos (1 * u)) (c 2 *ℤ pos ((2 * s + 1) * v))
+      ∙ swap-terms (c 0 *ℤ pos (2 ^ 20) +ℤ c 1 *ℤ one) (c 2 *ℤ two) (c 1 *ℤ pos u) (c 2 *ℤ pos ((2 * s + 1) * v))
       ∙ ap₂ _+ℤ_
-      (+ℤ-assoc (c 0 *ℤ pos (2 ^ 20)) (c 1 *ℤ one) (c 1 *ℤ pos (1 * u)) ∙ ap (λ (z : ℤ). c 0 *ℤ pos (2 ^ 20) +ℤ z) (sym (distrib-pos (c 1) (s * u) (1 * u))))
+      (+ℤ-assoc (c 0 *ℤ pos (2 ^ 20)) (c 1 *ℤ one) (c 1 *ℤ pos u) ∙ ap (λ (z : ℤ). c 0 *ℤ pos (2 ^ 20) +ℤ z) (sym (distrib-pos (c 1) (s * u) u)))
       (sym (distrib-pos (c 2) (s * s * v) ((2 * s + 1) * v)))
-      ∙ three-terms depth (s + 1) c _ _ (ap pos (sym (add-mul s 1 u))) (ap pos next-square)
+      ∙ three-terms depth (s + 1) c _ _ (ap pos (omega (arith, add-mul s 1 u, one-mul u))) (ap pos next-square)
 
   pub next-growth : growth depth row s +ℤ bend depth row ≡ growth depth row (s + 1)
   next-growth =
       let c = coef row in
-      let g = c 1 *ℤ pos (1 * u) in
+      let g = c 1 *ℤ pos u in
       let more : (2 * s + 1) * v + 2 * v ≡ (2 * (s + 1) + 1) * v = sym (add-mul (2 * s + 1) 2 v) ∙ ap (λ (n : ℕ). n * v) (omega arith) in
       +ℤ-assoc g (c 2 *ℤ pos ((2 * s + 1) * v)) (bend depth row)
       ∙ ap (λ (z : ℤ). g +ℤ z) (sym (distrib-pos (c 2) ((2 * s + 1) * v) (2 * v)) ∙ ap (λ (n : ℕ). c 2 *ℤ pos n) more)
 
 -- ---- how large they are, for a sample or the number of codes
 module _ {depth s : ℕ} {row : List ℤ} (r : RowRanges depth s row) where
-  unit-le : 1 * 2 ^ (20 - depth) ≤ 2 ^ 22
+  unit-le : 2 ^ (20 - depth) ≤ 2 ^ 22
   unit-le = omega (arith, pow-mono {i = 20 - depth} {j = 20} (omega arith))
 
   pub unit-fits : (20 - depth ≤ 20) × (1 * 2 ^ (20 - depth) ≤ 2 ^ 22)
-  unit-fits = (omega arith, unit-le)
+  unit-fits = (omega arith, omega (arith, one-mul (2 ^ (20 - depth)), unit-le))
 
   pub two-fits : (20 - 2 * depth ≤ 20) × (2 * 2 ^ (20 - 2 * depth) ≤ 2 ^ 22)
   two-fits = (omega arith, omega (arith, pow-mono {i = 20 - 2 * depth} {j = 20} (omega arith)))
@@ -65,9 +65,9 @@ module _ {depth s : ℕ} {row : List ℤ} (r : RowRanges depth s row) where
 
   pub growth-le : natAbs (growth depth row s) ≤ 2 ^ 61
   growth-le =
-      let g = coef row 1 *ℤ pos (1 * 2 ^ (20 - depth)) in
+      let g = coef row 1 *ℤ pos (2 ^ (20 - depth)) in
       let h = coef row 2 *ℤ pos ((2 * s + 1) * 2 ^ (20 - 2 * depth)) in
-      let a : natAbs g ≤ 2 ^ 38 * 2 ^ 22 = mul-in (coef row 1) (pos (1 * 2 ^ (20 - depth))) (r .coefficient 1) unit-le in
+      let a : natAbs g ≤ 2 ^ 38 * 2 ^ 22 = mul-in (coef row 1) (pos (2 ^ (20 - depth))) (r .coefficient 1) unit-le in
       let b : natAbs h ≤ 2 ^ 38 * 2 ^ 22 = mul-in (coef row 2) (pos ((2 * s + 1) * 2 ^ (20 - 2 * depth))) (r .coefficient 2) (odd-fits .1) in
       le-trans (add-in g h a b) (omega arith)
 

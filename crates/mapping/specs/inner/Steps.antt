@@ -39,7 +39,7 @@ by-row depth d row s = cut d (poly-sum depth s (coef row) 2)
 
 -- by how much the sum grows from s to the sample after it, and by how much that grows
 abbrev pub growth : ℕ → List ℤ → ℕ → ℤ
-growth depth row s = coef row 1 *ℤ pos (1 * 2 ^ (20 - depth)) +ℤ coef row 2 *ℤ pos ((2 * s + 1) * 2 ^ (20 - 2 * depth))
+growth depth row s = coef row 1 *ℤ pos (2 ^ (20 - depth)) +ℤ coef row 2 *ℤ pos ((2 * s + 1) * 2 ^ (20 - 2 * depth))
 
 abbrev pub bend : ℕ → List ℤ → ℤ
 bend depth row = coef row 2 *ℤ pos (2 * 2 ^ (20 - 2 * depth))

@@ -1,9 +1,9 @@
 -- `mapping::polynomial::course_from` meets its contract: every number on the way is a word that holds it. Assumes nothing.
 use borrow.Author.Needs.{needs, sfits-of}
 use mathlib.Core.Path.{ap, ap₂, _∙_}
-use Prim.Native.Nat.{ℕ, _^_}
-use native.Mathlib.Nat.{le-trans, le-of-eq}
-use lib.IntN.{ℤ, natAbs, _+ℤ_, _*ℤ_}
+use Prim.Native.Nat.{ℕ, _^_, _-_}
+use native.Mathlib.Nat.{le-trans, le-of-eq, one-mul}
+use lib.IntN.{ℤ, pos, natAbs, _+ℤ_, _*ℤ_}
 use mir.Syntax.{w64}
 use mir.Val.{ofZ}
 use mir.Facts.{toZ-ofZ}
@@ -60,7 +60,7 @@ returns c =
     let v : tie.After-sum-of = search needs in
     let k = coef (st .args .t3) in (
       toZ-ofZ (sfits-of {w = w64} {z = v .sum-of .result} (v .sum-of .ok)) ∙ v .sum-of .ensures,
-      add (mul (row st 1) (unit u) tt) (mul (row st 2) (odd o) tt) tt .is ∙ ap₂ (λ (x y : ℤ). k 1 *ℤ x +ℤ k 2 *ℤ y) (u .shifted .ensures) (o .shifted2 .ensures),
+      add (mul (row st 1) (unit u) tt) (mul (row st 2) (odd o) tt) tt .is ∙ ap₂ (λ (x y : ℤ). k 1 *ℤ x +ℤ k 2 *ℤ y) (u .shifted .ensures ∙ ap pos (one-mul (2 ^ (20 - st .args .depth)))) (o .shifted2 .ensures),
       mul (row st 2) (two t) tt .is ∙ ap (λ (x : ℤ). k 2 *ℤ x) (t .shifted3 .ensures),
     )
 
