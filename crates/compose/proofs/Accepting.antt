@@ -16,7 +16,7 @@ use Rattle.plan.proofs.Facts.{header-facts}
 use Rattle.rules.specs.Rules.{Given, extent, names, used, refusal}
 use Rattle.rules.proofs.Accepting.{Accepted, accepted, in-picture}
 use Rattle.rows.specs.declared.Rows.{Rows}
-use Rattle.compose.specs.Composing.{composed-at, output-after, answer}
+use Rattle.compose.specs.Composing.{composed-by, output-after, answer}
 use Rattle.compose.proofs.Samples.{CodesInPicture}
 
 abbrev Ends : Given → List ℕ → Outcome → List ℕ → Type 0
@@ -30,10 +30,10 @@ refused g output k e n = (outcome-denied _ k _ (sym e) n, rw (← e, ne-eqb k 0 
 abbrev pub rows-of : Given → Rows
 rows-of g = record { first = g .first; last = g .first + g .count }
 
-pub written : (g : Given) (output after : List ℕ) (value : ℕ → ℕ) → 0 ≡ refusal g (length output) → after ≡ painted (in-pairs (extent (g .plan .header)) (g .first) (g .first + g .count)) value output → ((i : ℕ) → value i ≡ composed-at (g .plan) (g .base) (g .enhancement) i) → Ends g output (granted []) after
+pub written : (g : Given) (output after : List ℕ) (value : ℕ → ℕ) → 0 ≡ refusal g (length output) → after ≡ painted (in-pairs (extent (g .plan .header)) (g .first) (g .first + g .count)) value output → ((i : ℕ) → in-pairs (extent (g .plan .header)) (g .first) (g .first + g .count) i ≡ true → value i ≡ composed-by (g .source) (g .plan) (g .base) (g .enhancement) i) → Ends g output (granted []) after
 unfolding output-after names
 written g output after value e h same =
-    (outcome-granted _ _ (sym e), rw (← e) (h ∙ painted-cong _ _ _ _ output (λ i b. refl) (λ i b s. same i)))
+    (outcome-granted _ _ (sym e), rw (← e) (h ∙ painted-cong _ _ _ _ output (λ i b. refl) (λ i b s. same i s)))
 
 -- ---- what acceptance gives to whoever composes
 module _ (g : Given) (n : ℕ) (e : 0 ≡ refusal g n) where

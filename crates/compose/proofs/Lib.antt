@@ -1,4 +1,5 @@
-mod Samples
-mod Chroma
-mod Meaning
-mod Accepting
+pub mod Samples
+pub mod Planes
+pub mod Chroma
+pub mod Meaning
+pub mod Accepting

@@ -13,6 +13,8 @@ use Rattle.runs.specs.Runs.{painted, between}
 use Rattle.runs.specs.inner.Loops.{at}
 use Rattle.runs.proofs.Between.{between-true}
 use Rattle.runs.proofs.Painting.{painted-cong, length-painted}
+use Rattle.runs.specs.inner.Tables.{coded}
+use Rattle.runs.proofs.Tables.{length-table}
 use Rattle.standard.specs.Mapping.{pivot-value, pivot-idx, mapped}
 use Rattle.standard.specs.Mmr.{chroma-mapped}
 use Rattle.standard.specs.Residual.{residual, reconstructed}
@@ -47,8 +49,10 @@ use Rattle.rows.specs.inner.Rows.{RowsIn}
 use Rattle.rows.proofs.Lending.{all-looked-up, all-added-up}
 use Rattle.mmr.specs.inner.Chroma.{chroma-after}
 use Rattle.planes.specs.inner.ByTables.{plain-plane, enhanced-plane, three, by-tables, plain-mixed, enhanced-mixed, plain-picture, enhanced-picture}
-use Rattle.compose.specs.Composing.{component-at, chroma-at, mapped-at, residual-at, composed-at}
+use Rattle.compose.specs.Composing.{component-at, chroma-at, mapped-at, residual-at, composed-by, composed-at}
 use Rattle.compose.proofs.Samples.{apart, CodesIn, CodesInPicture, luma-mapped, cb-mapped, cr-mapped, plain-at, enhanced-at, three-mapped}
+use Rattle.compose.proofs.Planes.{Has, in-luma, in-cb, in-cr}
+use Rattle.compose.proofs.Planes as by-table
 use Rattle.compose.proofs.Chroma.{chroma-le, both-painted}
 
 -- ---- a component of polynomials
@@ -69,43 +73,20 @@ chroma-alone p base c can s j =
     let z : mapping c .mapping-idc q ≡ 0 = pieces-facts c pieces q (omega (arith, idx-le (pivot-value (mapping c .pred-pivot-value)) (c .n) s)) .method in
     rw z refl
 
--- ---- one plane by its tables
+-- ---- one plane by a table that was made for it
 module _ (h : Header) (c : Component) (p : Plane) (r : Rows) (fit : header-fits h ≡ true) (can : can-map h c ≡ true) (output base : List ℕ) (m : ℕ → ℕ) (is : (i : ℕ) → mapped (bl-depth h) (h .d) (mapping c) (at base i) ≡ m i) (g : CodesIn p r (2 ^ bl-depth h) base) (o : RowsIn p r output) where
-  abbrev rows : ℕ → Bool
-  rows = in-rows p (between (r .first) (r .last))
+  -- it has a place for every code
+  has : Has p r (mapped-table h c) base m
+  unfolding mapped-table
+  has = record { long = λ i s. rw (length-table 1024 (coded (can-map h c) (2 ^ bl-depth h) (mapped (bl-depth h) (h .d) (mapping c)))) (omega arith); is = λ i s. mapped-found h c can (at base i) (g .code i s) ∙ is i }
 
-  pub plain-plane-painted : plain-plane h r base c p output ≡ painted rows (plain-at h m) output
-  unfolding looked-up plain-at
-  plain-plane-painted =
-      all-looked-up p r base output (g .rows) o _
-      ∙ painted-cong rows rows _ _ output (λ i b. refl)
-      (λ i b s.
-      finished-found h fit (mapped-table h c) (at base i)
-      ∙ ap (λ (v : ℕ). reconstructed (hdr-depth h) v (pos 0)) (mapped-found h c can (at base i) (g .code i s) ∙ is i))
+  plain-plane-painted : plain-plane h r base c p output ≡ painted (in-rows p (between (r .first) (r .last))) (plain-at h m) output
+  plain-plane-painted = by-table.plain-painted h p r (mapped-table h c) base output m fit has (g .rows) o
 
-  pub enhanced-plane-painted : (header-fits h && nlq-fits h (c .nlq)) ≡ true → (enhancement : List ℕ) → CodesIn p r (2 ^ el-depth h) enhancement → enhanced-plane h r base enhancement c p output ≡ painted rows (enhanced-at h enhancement (c .nlq) m) output
-  unfolding added-up enhanced-at
+  enhanced-plane-painted : (header-fits h && nlq-fits h (c .nlq)) ≡ true → (enhancement : List ℕ) → CodesIn p r (2 ^ el-depth h) enhancement → enhanced-plane h r base enhancement c p output ≡ painted (in-rows p (between (r .first) (r .last))) (enhanced-at h enhancement (c .nlq) m) output
   enhanced-plane-painted u enhancement g' =
-      all-added-up p r base output (g .rows) o _ _ _ enhancement (g' .rows)
-      ∙ painted-cong rows rows _ _ output (λ i b. refl)
-      (λ i b s.
-      ap₂ (λ (v w : ℕ). cut-of (cut-numbers h) (v + w)) (mapped-found h c can (at base i) (g .code i s)) (raised-found h (c .nlq) u (at enhancement i) (g' .code i s))
-      ∙ cut-found h fit _ _ (mapped-le (bl-depth h) (h .d) (mapping c) (at base i)) (residual-small h (c .nlq) u (at enhancement i))
-      ∙ ap (λ (v : ℕ). reconstructed (hdr-depth h) v (residual (el-depth h) (h .d) (quantization (c .nlq)) (at enhancement i))) (is i))
-
--- ---- the planes of a picture
-module _ (e : Extent) (r : Rows) (limit : ℕ) (run : List ℕ) (g : CodesInPicture e r limit run) where
-  few : (k : ℕ) → between (r .first) (r .last) k ≡ true → k < e .pairs
-  few k h = omega (arith, between-true (r .first) (r .last) k h, g .rows .within)
-
-  pub in-luma : CodesIn (luma-plane e) r limit run
-  in-luma = let p = in-luma-plane e _ _ _ (g .rows) in record { rows = p; code = λ i s. g .code i (rows-inside _ _ _ _ i p s) (luma-selected e (g .rows .some-columns) _ few i s) }
-
-  pub in-cb : CodesIn (cb-plane e) r limit run
-  in-cb = let p = in-cb-plane e _ _ _ (g .rows) in record { rows = p; code = λ i s. g .code i (rows-inside _ _ _ _ i p s) (cb-selected e (g .rows .some-columns) _ few i s) }
-
-  pub in-cr : CodesIn (cr-plane e) r limit run
-  in-cr = let p = in-cr-plane e _ _ _ (g .rows) in record { rows = p; code = λ i s. g .code i (rows-inside _ _ _ _ i p s) (cr-selected e (g .rows .some-columns) _ few i s) }
+      by-table.enhanced-painted h p r (mapped-table h c) base output m fit has (g .rows) o (c .nlq) u
+      (λ i s. rw (sym (is i)) (mapped-le (bl-depth h) (h .d) (mapping c) (at base i))) enhancement g'
 
 -- where each plane is painted, whatever was written before it, the picture is
 module _ (p : Plan) (r : Rows) (output : List ℕ) (g : InPicture (extent (p .header)) (r .first) (r .last) (length output)) where
@@ -263,7 +244,7 @@ module _ (p : Plan) (r : Rows) (output : List ℕ) (g : InPicture (extent (p .he
 
 -- ---- what the planes hold is what composing means
 -- of two things of a plane
-of-plane-both : {A B : Type 0} (f : A → B → ℕ) (e : Extent) (i : ℕ) (y cb cr : A) (y' cb' cr' : B) → of-plane e i (f y y') (f cb cb') (f cr cr') ≡ f (of-plane e i y cb cr) (of-plane e i y' cb' cr')
+pub of-plane-both : {A B : Type 0} (f : A → B → ℕ) (e : Extent) (i : ℕ) (y cb cr : A) (y' cb' cr' : B) → of-plane e i (f y y') (f cb cb') (f cr cr') ≡ f (of-plane e i y cb cr) (of-plane e i y' cb' cr')
 unfolding of-plane
 of-plane-both f e i y cb cr y' cb' cr' = go (ltb i (luma-size e)) (ltb i (luma-size e + chroma-size e))
   where
@@ -273,13 +254,13 @@ of-plane-both f e i y cb cr y' cb' cr' = go (ltb i (luma-size e)) (ltb i (luma-s
     go false false = refl
 
 pub plain-composed : (p : Plan) (base enhancement : List ℕ) (i : ℕ) → used (p .header) (length enhancement) ≡ false → three-mapped p base (λ c. plain-at (p .header)) i ≡ composed-at p base enhancement i
-unfolding plain-at composed-at mapped-at residual-at
+unfolding plain-at composed-by mapped-at residual-at
 plain-composed p base enhancement i off =
     let e = extent (p .header) in
     sym (of-plane-ap (λ (v : ℕ). reconstructed (hdr-depth (p .header)) v (pos 0)) e i (luma-mapped p base i) (cb-mapped p base i) (cr-mapped p base i)) ∙ rw off
 
 pub enhanced-composed : (p : Plan) (base enhancement : List ℕ) (i : ℕ) → used (p .header) (length enhancement) ≡ true → three-mapped p base (λ c. enhanced-at (p .header) enhancement (c .nlq)) i ≡ composed-at p base enhancement i
-unfolding enhanced-at composed-at mapped-at residual-at
+unfolding enhanced-at composed-by mapped-at residual-at
 enhanced-composed p base enhancement i on =
     let h = p .header in
     of-plane-both (λ (v : ℕ) (c : Component). reconstructed (hdr-depth h) v (residual (el-depth h) (h .d) (quantization (c .nlq)) (at enhancement i))) (extent h) i (luma-mapped p base i) (cb-mapped p base i) (cr-mapped p base i) (p .y) (p .cb) (p .cr)

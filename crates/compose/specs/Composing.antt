@@ -1,7 +1,7 @@
 -- The composing process (5.4) over a picture: what stands at each index of the output after a call, and what it answers.
 use mathlib.Core.Bool.{Bool, cond}
 use mathlib.Core.List.{List, []}
-use Prim.Native.Nat.{ℕ, _+_, _-_, _*_, _/_, _%_}
+use Prim.Native.Nat.{ℕ, _+_, _-_, _*_, _/_, _%_, _^_}
 use lib.Dec.{eqb}
 use lib.IntN.{ℤ, pos}
 use lib.ListN.{length, getD}
@@ -12,11 +12,12 @@ use Rattle.standard.specs.Mmr.{down-sampled, chroma-mapped}
 use Rattle.standard.specs.Residual.{residual, reconstructed}
 use Rattle.picture.specs.declared.Extent.{Extent}
 use Rattle.picture.specs.Picture.{width, luma-size, chroma-size, of-plane, pair-at}
+use Rattle.plan.specs.declared.Header.{Header}
 use Rattle.plan.specs.declared.Component.{Component}
 use Rattle.plan.specs.declared.Plan.{Plan}
 use Rattle.plan.specs.Ranges.{bl-depth, el-depth, hdr-depth}
 use Rattle.plan.specs.Parameters.{mapping, quantization}
-use Rattle.rules.specs.Rules.{Given, extent, names, used, refusal}
+use Rattle.rules.specs.Rules.{Source, by-plan, by-table, Given, extent, names, used, refusal}
 use Rattle.compose.specs.declared.Composed.{Composed}
 use Rattle.compose.specs.declared.Composed.the-variants.{Written, Refused}
 
@@ -58,9 +59,23 @@ residual-at p enhancement i =
     (residual (el-depth (p .header)) (p .header .d) (quantization (component-at p i .nlq)) (getD enhancement i 0))
     (pos 0)
 
--- 5.4.3.3: the composed sample at index i
-unfoldable pub composed-at : Plan → List ℕ → List ℕ → ℕ → ℕ
-composed-at p base enhancement i = reconstructed (hdr-depth (p .header)) (mapped-at p base i) (residual-at p enhancement i)
+-- the mapped sample at index i as a lent table has it: by the plane and by the sample, whatever the table holds
+unfoldable pub looked-up-at : Header → List ℕ → List ℕ → ℕ → ℕ
+looked-up-at h table base i =
+    let codes = 2 ^ bl-depth h in
+    getD table (of-plane (extent h) i 0 codes (2 * codes) + getD base i 0) 0
+
+abbrev pub mapped-by : Source → Plan → List ℕ → ℕ → ℕ
+mapped-by by-plan p base i = mapped-at p base i
+mapped-by (by-table t) p base i = looked-up-at (p .header) t base i
+
+-- 5.4.3.3: the composed sample at index i, of mapped samples from either source
+unfoldable pub composed-by : Source → Plan → List ℕ → List ℕ → ℕ → ℕ
+composed-by s p base enhancement i = reconstructed (hdr-depth (p .header)) (mapped-by s p base i) (residual-at p enhancement i)
+
+-- and where it is worked out by the plan alone
+abbrev pub composed-at : Plan → List ℕ → List ℕ → ℕ → ℕ
+composed-at p base enhancement i = composed-by by-plan p base enhancement i
 
 -- the row pairs that a call composes are those that it names
 abbrev pub composes : Given → ℕ → Bool
@@ -70,7 +85,7 @@ composes g = names g
 unfoldable pub output-after : Given → List ℕ → List ℕ
 output-after g output =
     cond (eqb (refusal g (length output)) 0)
-    (painted (λ i. composes g (pair-at (extent (g .plan .header)) i)) (composed-at (g .plan) (g .base) (g .enhancement)) output)
+    (painted (λ i. composes g (pair-at (extent (g .plan .header)) i)) (composed-by (g .source) (g .plan) (g .base) (g .enhancement)) output)
     output
 
 -- what each case of the answer says, and what the call answers

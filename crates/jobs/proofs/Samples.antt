@@ -10,8 +10,8 @@ use Rattle.runs.specs.Runs.{painted}
 use Rattle.runs.proofs.Painting.{at-painted}
 use Rattle.picture.specs.Picture.{pair-at}
 use Rattle.plan.specs.declared.Plan.{Plan}
-use Rattle.rules.specs.Rules.{extent, names, used}
-use Rattle.compose.specs.Composing.{residual-at, composed-at}
+use Rattle.rules.specs.Rules.{Source, extent, names, used}
+use Rattle.compose.specs.Composing.{residual-at, composed-by}
 use Rattle.jobs.specs.Jobs.{Job, accepted, sample, output-after, EverySample}
 
 module _ (j : Job) (output marks : List ℕ) where
@@ -37,10 +37,10 @@ every-sample =
     go j output marks i l n true h = ap (λ (r : List ℕ). getD r i 0) (after j output marks true h) ∙ at j output marks i false l n
     go j output marks i l n false h = ap (λ (r : List ℕ). getD r i 0) (after j output marks false h)
 
-pub same-sample : (p : Plan) (base e e' : List ℕ) (i : ℕ) → (p .header .disabled ≡ 0 → e ≡ e') → composed-at p base e i ≡ composed-at p base e' i
-unfolding composed-at residual-at used
-same-sample p base e e' i h = go (eqb (p .header .disabled) 0) refl
+pub same-sample : (s : Source) (p : Plan) (base e e' : List ℕ) (i : ℕ) → (p .header .disabled ≡ 0 → e ≡ e') → composed-by s p base e i ≡ composed-by s p base e' i
+unfolding composed-by residual-at used
+same-sample s p base e e' i h = go (eqb (p .header .disabled) 0) refl
   where
-    go : (b : Bool) → eqb (p .header .disabled) 0 ≡ b → composed-at p base e i ≡ composed-at p base e' i
-    go true q = ap (λ (x : List ℕ). composed-at p base x i) (h (eqb-true _ 0 q))
+    go : (b : Bool) → eqb (p .header .disabled) 0 ≡ b → composed-by s p base e i ≡ composed-by s p base e' i
+    go true q = ap (λ (x : List ℕ). composed-by s p base x i) (h (eqb-true _ 0 q))
     go false q = rw q

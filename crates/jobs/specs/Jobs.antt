@@ -10,8 +10,8 @@ use Rattle.refusals.specs.Refusals.{Rule, rule, first-met, Outcome, granted, de
 use Rattle.picture.specs.Picture.{pair-at}
 use Rattle.plan.specs.declared.Plan.{Plan}
 use Rattle.plan.specs.Rule7.{fitting}
-use Rattle.rules.specs.Rules.{Given, given, extent, names, rules}
-use Rattle.compose.specs.Composing.{composes, composed-at}
+use Rattle.rules.specs.Rules.{Given, given, given-table, extent, names, rules}
+use Rattle.compose.specs.Composing.{composes, composed-by}
 use Rattle.jobs.specs.declared.Opened.{Opened}
 use Rattle.jobs.specs.declared.Opened.the-variants as opened
 use Rattle.jobs.specs.declared.Answer.{Answer}
@@ -45,21 +45,26 @@ pub record Job : Type 0 where
 abbrev pub job : Plan → ℕ → ℕ → ℕ → ℕ → List ℕ → List ℕ → Job
 job p o t f n b e = record { work = given p f n b e; open-ticket = o; ticket = t }
 
+-- a job that is lent a table of mapped samples
+abbrev pub table-job : Plan → List ℕ → ℕ → ℕ → ℕ → ℕ → List ℕ → List ℕ → Job
+table-job p table o t f n b e = record { work = given-table p table f n b e; open-ticket = o; ticket = t }
+
 -- what a job tests before it looks at the pictures: rule 8, and rule 9 on the marks
 abbrev pub before-pictures : Job → ℕ → List Rule
 before-pictures j marks-length =
     rule 8 (not (eqb (j .ticket) (j .open-ticket))) ∷ rule 9 (not (eqb marks-length (j .work .plan .header .pairs))) ∷ []
 
--- rules 7 to 11 in their order, with the lengths of the output and of the marks; 0 where none is met
+-- rules 7 to 11 in their order, and of a job that is lent a table 13 after 9, with the lengths of the output and of the marks; 0 where none is met
 unfoldable pub job-refusal : Job → ℕ → ℕ → ℕ
 job-refusal j output-length marks-length = first-met (rules (before-pictures j marks-length) (j .work) output-length)
 
 unfoldable pub accepted : Job → ℕ → ℕ → Bool
 accepted j output-length marks-length = eqb (job-refusal j output-length marks-length) 0
 
--- demand 2: the sample at index i is the composing process of clause 5.4 at that sample's base and enhancement values
+-- demand 2: the sample at index i is the composing process of clause 5.4 at that sample's base and enhancement values; of a job that
+-- is lent a table, with the mapped samples that it finds there
 abbrev pub sample : Job → ℕ → ℕ
-sample j = composed-at (j .work .plan) (j .work .base) (j .work .enhancement)
+sample j = composed-by (j .work .source) (j .work .plan) (j .work .base) (j .work .enhancement)
 
 -- an accepted job composes its row pairs and marks those that it names, and writes nothing else
 unfoldable pub output-after : Job → List ℕ → List ℕ → List ℕ

@@ -114,8 +114,11 @@ module _ (p : Plan) (e : fitting p ≡ true) where
   pub cr-usable : usable 2 (p .header) (p .cr) ≡ true
   cr-usable = rw (parts p e .0, parts p e .1 .1 .1)
 
+pub header-passed : (p : Plan) → fitting p ≡ true → header-fits (p .header) ≡ true
+header-passed p e = parts p e .0
+
 pub header-facts : (p : Plan) → fitting p ≡ true → HeaderFacts (p .header)
-header-facts p e = header-kept (p .header) (parts p e .0)
+header-facts p e = header-kept (p .header) (header-passed p e)
 
 -- the plan of zeros has no listed profile
 pub no-plan-refused : fitting no-plan ≡ false

@@ -7,3 +7,4 @@ pub mod Coefficients
 pub mod Sizes
 pub mod Facts
 pub mod Carrying
+pub mod Polynomials

@@ -1,5 +1,6 @@
 pub mod Ranges
 pub mod Rule7
+pub mod Tables
 pub mod Versions
 pub mod Parameters
 pub mod inner

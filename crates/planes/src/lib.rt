@@ -22,14 +22,16 @@ ghost use Rattle.residual.specs.inner.Tables.{residual-table, finished-table};
 ghost use Rattle.rows.specs.inner.Rows.{looked-up-rows, added-up-rows};
 ghost use Rattle.planes.specs.inner.ByTables.{plain-chroma, enhanced-chroma, plain-picture, enhanced-picture};
 
-fn plain_plane(h: Header, mapped: &[u16; 1024], p: Plane, r: Rows, base: &[u16], output: &mut [u16])
+// One plane without residual, by its mapped samples: those of a table that is made, or of a part of one that is lent.
+pub fn plain_plane(h: Header, mapped: &[u16], p: Plane, r: Rows, base: &[u16], output: &mut [u16])
     ensures { λ _. ⌜ now (output .exit) ≡ looked-up-rows (finished-table h (now (mapped .entry))) p r (now (base .entry)) (now (output .entry)) ⌝ }
 {
     let finished = finished_table(h, mapped);
     look_up_rows(&finished, p, r, base, output);
 }
 
-fn enhanced_plane(
+// One plane with residual.
+pub fn enhanced_plane(
     h: Header,
     mapped: &[u16; 1024],
     q: Nlq,

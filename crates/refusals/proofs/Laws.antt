@@ -22,6 +22,10 @@ passed true zero x n h = absurd (true≢false (sym n))
 passed true (suc k) x n h = absurd (omega arith)
 passed false k x n h = (refl, h)
 
+-- the first rule is not met, and neither is one of the others
+pub not-first : (r : Rule) (rs : List Rule) → not (eqb (r .number) 0) ≡ true → first-met (r ∷ rs) ≡ 0 → (r .met ≡ false) × (first-met rs ≡ 0)
+not-first r rs n h = passed (r .met) (r .number) (first-met rs) n h
+
 both : (a b : Bool) → (a && b) ≡ true → (a ≡ true) × (b ≡ true)
 both true b h = (refl, h)
 both false b h = absurd (true≢false (sym h))
@@ -31,7 +35,7 @@ pub none-met : (rs : List Rule) → numbered rs ≡ true → first-met rs ≡ 0 
 none-met [] n h = tt
 none-met (r ∷ rs) n h =
     let k = both (not (eqb (r .number) 0)) (numbered rs) n in
-    let p = passed (r .met) (r .number) (first-met rs) (k .0) h in
+    let p = not-first r rs (k .0) h in
     (p .0, none-met rs (k .1) (p .1))
 
 -- ---- taking tests apart

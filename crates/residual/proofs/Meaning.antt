@@ -6,8 +6,10 @@ use Prim.Native.Nat.{ℕ, _+_, _-_, _/_, _%_, _<_, _≤_, _^_}
 use native.Mathlib.Nat.{lt-of-lt-of-le, mod-eq-of-lt}
 use native.Mathlib.Omega.{arith}
 use lib.IntN.{ℤ, pos, natAbs}
+use lib.ListN.{length}
 use lib.Pow.{pow-mono}
 use Rattle.runs.specs.inner.Loops.{at}
+use Rattle.runs.specs.inner.Tables.{coded}
 use Rattle.runs.proofs.Tables.{at-table, coded-in}
 use Rattle.standard.specs.Residual.{residual, reconstructed}
 use Rattle.standard.proofs.Residuals.{residual-le}
@@ -43,14 +45,14 @@ residual-small h q u e =
     residual-le (el-depth h) (h .d) (quantization q) (omega (arith, f .base-depth, f .same-depth)) (f .deep) (nlq-facts h q (both (header-fits h) _ u .1) .maximum) e
 
 module _ (h : Header) (u : header-fits h ≡ true) where
-  pub code-finished : (mapped : List ℕ) (s : ℕ) → finished-code h mapped s ≡ reconstructed (hdr-depth h) (at mapped s) (pos 0)
+  pub code-finished : (mapped : List ℕ) (s : ℕ) → s < length mapped → finished-code h mapped s ≡ reconstructed (hdr-depth h) (at mapped s) (pos 0)
   unfolding finished-code
-  code-finished mapped s = rw u
+  code-finished mapped s b = coded-in (length mapped) _ s u b
 
   -- for whoever looks a mapped sample, or a sum, up
-  pub finished-found : (mapped : List ℕ) (s : ℕ) → at (finished-table h mapped) (s % 1024) ≡ reconstructed (hdr-depth h) (at mapped (s % 1024)) (pos 0)
+  pub finished-found : (mapped : List ℕ) (s : ℕ) → s % 1024 < length mapped → at (finished-table h mapped) (s % 1024) ≡ reconstructed (hdr-depth h) (at mapped (s % 1024)) (pos 0)
   unfolding finished-table
-  finished-found mapped s = at-table 1024 (finished-code h mapped) (s % 1024) (omega arith) ∙ code-finished mapped (s % 1024)
+  finished-found mapped s b = at-table 1024 (finished-code h mapped) (s % 1024) (omega arith) ∙ code-finished mapped (s % 1024) b
 
   pub cut-found : (v : ℕ) (r : ℤ) → v ≤ 65535 → natAbs r ≤ 2 ^ 17 → cut-of (cut-numbers h) (v + raised (hdr-depth h) r) ≡ reconstructed (hdr-depth h) v r
   unfolding cut-numbers lower-by lowered
@@ -63,5 +65,5 @@ module _ (h : Header) (u : header-fits h ≡ true) where
 -- a header that cannot be computed with
 module _ (h : Header) (u : header-fits h ≡ false) where
   pub not-finished : (mapped : List ℕ) (s : ℕ) → 0 ≡ finished-code h mapped s
-  unfolding finished-code
+  unfolding finished-code coded
   not-finished mapped s = rw u

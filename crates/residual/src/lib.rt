@@ -11,6 +11,7 @@ use rounding::finish;
 use rounding::power;
 use rounding::raise;
 use rule_seven::quantizes;
+use spans::least;
 use sums::Cut;
 ghost use mathlib.Core.Path.{_≡_};
 ghost use Rattle.residual.specs.inner.Tables.{residual-table, no-pair, residual-pair, no-residual, finished-table, cut-numbers};
@@ -88,17 +89,18 @@ pub fn no_residual(h: Header) -> [u32; 1024]
     [none; 1024]
 }
 
-// The HDR sample of each mapped sample, where there is no residual.
-pub fn finished_table(h: Header, mapped: &[u16; 1024]) -> [u16; 1024]
+// The HDR sample of each mapped sample of a run, of at most 1,024, where there is no residual.
+pub fn finished_table(h: Header, mapped: &[u16]) -> [u16; 1024]
     ensures { λ r. ⌜ r ≡ finished-table h (now (mapped .entry)) ⌝ }
 {
     if !header_fits(h) {
         return [0u16; 1024];
     }
     let out = (h.hdr as u32) + 8;
+    let n = least(mapped.len(), 1024);
     let mut table = [0u16; 1024];
     let mut s = 0;
-    while s < 1024 {
+    while s < n {
         table[s] = finish(out, mapped[s]);
         s += 1;
     }

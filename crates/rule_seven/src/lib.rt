@@ -14,9 +14,10 @@ use plan::limits::PIECES;
 use plan::ranges::header_fits;
 use ranges::nlq_fits;
 ghost use mathlib.Core.Path.{_≡_};
-ghost use mathlib.Core.Bool.{_&&_};
+ghost use mathlib.Core.Bool.{not, _&&_};
 ghost use Rattle.plan.specs.Ranges.{header-fits};
 ghost use Rattle.plan.specs.Rule7.{nlq-fits, fitting, usable};
+ghost use Rattle.plan.specs.Tables.{has-mmr};
 
 // Whether component k of a plan can be computed with, for whoever is handed a component alone. Its pieces are read where
 // they lie: a component is large, and to hand it on is to copy it. Pieces that are used, and those that are not, are two
@@ -51,15 +52,21 @@ pub fn is_usable(k: usize, h: Header, c: Component) -> bool
     pivots & (fit & residual)
 }
 
-// Rule 7: whether a plan that is handed in keeps every range and has 0 in every unused place.
+// Rule 7: whether a plan that is handed in keeps every range and has 0 in every unused place. A component goes straight
+// from the plan to its test: one that is named on the way is copied twice.
 pub fn passes(plan: Plan) -> bool
     ensures { λ r. ⌜ r ≡ fitting plan ⌝ }
 {
-    let header = plan.header;
-    let y = plan.y;
-    let cb = plan.cb;
-    let cr = plan.cr;
-    is_usable(0, header, y) & (is_usable(1, header, cb) & is_usable(2, header, cr))
+    is_usable(0, plan.header, plan.y)
+        & (is_usable(1, plan.header, plan.cb) & is_usable(2, plan.header, plan.cr))
+}
+
+// The same, and no piece is MMR: each component is one that luma could be.
+pub fn all_polynomials(plan: Plan) -> bool
+    ensures { λ r. ⌜ r ≡ (fitting plan && not (has-mmr plan)) ⌝ }
+{
+    is_usable(0, plan.header, plan.y)
+        & (is_usable(0, plan.header, plan.cb) & is_usable(0, plan.header, plan.cr))
 }
 
 // The same of its inverse quantization, which asks nothing of the pieces.

@@ -7,7 +7,7 @@ ghost use mathlib.Core.Path.{_≡_};
 ghost use Rattle.rules.specs.Rules.{wrong-length, wrong-pairs};
 
 // Rule 9. An enhancement that is not used may have any length.
-pub(crate) fn is_wrong_length(h: Header, base: usize, enhancement: usize, output: usize) -> bool
+pub fn is_wrong_length(h: Header, base: usize, enhancement: usize, output: usize) -> bool
     ensures { λ r. ⌜ r ≡ wrong-length h base enhancement output ⌝ }
 {
     let e = extent_of(h);

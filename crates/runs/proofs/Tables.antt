@@ -77,7 +77,7 @@ pub coded-in : (n : ℕ) (f : ℕ → ℕ) (s : ℕ) {u : Bool} → u ≡ true �
 unfolding coded
 coded-in n f s e b = rw (e, lt-ltb s n b)
 
-coded-past : (u : Bool) (n : ℕ) (f : ℕ → ℕ) (s : ℕ) → n ≤ s → 0 ≡ coded u n f s
+pub coded-past : (u : Bool) (n : ℕ) (f : ℕ → ℕ) (s : ℕ) → n ≤ s → 0 ≡ coded u n f s
 unfolding coded
 coded-past true n f s b = rw (le-ltb s n b)
 coded-past false n f s b = refl

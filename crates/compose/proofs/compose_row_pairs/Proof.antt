@@ -46,7 +46,7 @@ returns-2 c =
     let on = sym (u .is-used .ensures) ∙ t .if2 .taken in
     written (asked s) (s .args .output .now) _ _ z
     (p .enhanced-planes .ensures ∙ enhanced-painted (s .args .plan) (rows-of (asked s)) (s .args .output .now) (in-output _ _ z) (passed _ _ z .fits) (s .args .base .now) (in-base _ _ z) (s .args .enhancement .now) (in-enhancement _ _ z on))
-    (λ i. enhanced-composed (s .args .plan) (s .args .base .now) (s .args .enhancement .now) i on)
+    (λ i t. enhanced-composed (s .args .plan) (s .args .base .now) (s .args .enhancement .now) i on)
 
 returns-3 : tie.Need-returns-3
 returns-3 c =
@@ -58,7 +58,7 @@ returns-3 c =
     let z = none e in
     written (asked s) (s .args .output .now) _ _ z
     (p .plain-planes .ensures ∙ plain-painted (s .args .plan) (rows-of (asked s)) (s .args .output .now) (in-output _ _ z) (passed _ _ z .fits) (s .args .base .now) (in-base _ _ z))
-    (λ i. plain-composed (s .args .plan) (s .args .base .now) (s .args .enhancement .now) i (sym (u .is-used .ensures) ∙ l .if2 .left))
+    (λ i t. plain-composed (s .args .plan) (s .args .base .now) (s .args .enhancement .now) i (sym (u .is-used .ensures) ∙ l .if2 .left))
 
 pub compose-row-pairs-spec : {M : Type 1} → statement M
 compose-row-pairs-spec =

@@ -6,8 +6,9 @@ use borrow.Author.Tests.{not-true, not-false}
 use Prim.Native.Nat.{_-_, _≤_}
 use native.Mathlib.Omega.{arith}
 use lib.IntN.{pos}
+use lib.ListN.{length}
 use Rattle.runs.specs.inner.Loops.{at}
-use Rattle.runs.proofs.Tables.{Filled, fill-none, fill-more, fill-all, zero-table}
+use Rattle.runs.proofs.Tables.{Filled, fill-none, fill-more, fill-all, coded-past, zero-table}
 use Rattle.standard.specs.Residual.{reconstructed}
 use Rattle.plan.specs.Ranges.{header-fits}
 use Rattle.plan.proofs.Facts.{header-kept}
@@ -17,12 +18,15 @@ use Rattle.residual.proofs.finished_table.Statement.{statement}
 use Rattle.residual.proofs.finished_table.Tie as tie
 
 abbrev Inv-loop : tie.InvT-loop
-Inv-loop mapped out table₀ s₀ table s = (s ≤ 1024) × Filled 1024 (λ j. reconstructed out (at mapped j) (pos 0)) s table
+Inv-loop mapped out n table₀ s₀ table s = (s ≤ n) × Filled 1024 (λ j. reconstructed out (at mapped j) (pos 0)) s table
 
 abbrev μ-loop : tie.MeasureT-loop
-μ-loop mapped out table₀ s₀ table s = 1024 - s
+μ-loop mapped out n table₀ s₀ table s = n - s
 
-passed : (e : tie.Else1 Inv-loop μ-loop) → header-fits (e .before .before .args .h) ≡ true
+abbrev start : tie.Else1 Inv-loop μ-loop → tie.Start Inv-loop μ-loop
+start e = search needs
+
+passed : (e : tie.Else1 Inv-loop μ-loop) → header-fits (start e .args .h) ≡ true
 passed e = sym (e .before .header-fits .ensures) ∙ not-false _ (e .if1 .left)
 
 returns : tie.Need-returns Inv-loop μ-loop
@@ -34,15 +38,26 @@ returns c =
 loop-again : tie.Need-loop-again Inv-loop μ-loop
 loop-again c =
     let lp : tie.At-loop Inv-loop μ-loop = search needs in
-    (omega arith, fill-more (lp .loop .inv .1) (omega arith) (c .finish .ensures))
+    let n : tie.After-least Inv-loop μ-loop = search needs in
+    (omega arith, fill-more (lp .loop .inv .1) (omega (arith, n .least .ensures)) (c .finish .ensures))
 
 returns-2 : tie.Need-returns-2 Inv-loop μ-loop
-unfolding finished-table
+unfolding finished-table finished-code
 returns-2 c =
     let e : tie.Else1 Inv-loop μ-loop = search needs in
     let lp : tie.At-loop Inv-loop μ-loop = search needs in
-    let a = e .before .before .args in
-    fill-all (finished-code (a .h) (a .mapped .now)) (lp .loop .inv .1) (λ j b k. sym (code-finished (a .h) (passed e) (a .mapped .now) j)) (λ j b k. omega arith)
+    let n : tie.After-least Inv-loop μ-loop = search needs in
+    let a = start e .args in
+    fill-all (finished-code (a .h) (a .mapped .now)) (lp .loop .inv .1)
+    (λ j b k. sym (code-finished (a .h) (passed e) (a .mapped .now) j (omega (arith, n .least .ensures))))
+    (λ j b k. coded-past (header-fits (a .h)) (length (a .mapped .now)) _ j (omega (arith, n .least .ensures)))
+
+-- as many as the run and the table have
+short : (n : tie.After-least Inv-loop μ-loop) → n .least .result ≤ 1024
+short n = omega (arith, n .least .ensures)
+
+within : (n : tie.After-least Inv-loop μ-loop) → (let e : tie.Else1 Inv-loop μ-loop = search needs in n .least .result ≤ length (start e .args .mapped .now))
+within n = omega (arith, n .least .ensures)
 
 pub finished-table-spec : {M : Type 1} → statement M
 finished-table-spec =
@@ -54,13 +69,14 @@ finished-table-spec =
     returns
     (λ c. search needs)
     (λ c. search needs)
+    (λ c κs. search needs)
     (λ c. (omega arith, fill-none 1024 _ 0 (λ j h. omega arith)))
-    (λ c. omega arith)
-    (λ c. omega arith)
+    (λ c. let n : tie.After-least Inv-loop μ-loop = search needs in omega (arith, within n))
+    (λ c. let n : tie.After-least Inv-loop μ-loop = search needs in omega (arith, within n))
     (λ c κs. let e : tie.Else1 Inv-loop μ-loop = search needs in (omega arith, omega (arith, header-kept _ (passed e) .out-depth)))
-    (λ c. omega arith)
-    (λ c. omega arith)
-    (λ c. omega arith)
+    (λ c. let n : tie.After-least Inv-loop μ-loop = search needs in omega (arith, short n))
+    (λ c. let n : tie.After-least Inv-loop μ-loop = search needs in omega (arith, short n))
+    (λ c. let n : tie.After-least Inv-loop μ-loop = search needs in omega (arith, short n))
     (λ c. omega arith)
     loop-again
     returns-2)

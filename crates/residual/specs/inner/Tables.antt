@@ -3,7 +3,7 @@ use mathlib.Core.Bool.{Bool, _&&_, cond}
 use mathlib.Core.List.{List}
 use Prim.Native.Nat.{ℕ, _-_, _*_, _^_}
 use lib.IntN.{pos}
-use lib.ListN.{replicate}
+use lib.ListN.{length, replicate}
 use Rattle.runs.specs.inner.Loops.{at}
 use Rattle.runs.specs.inner.Tables.{table, coded}
 use Rattle.standard.specs.Residual.{residual, reconstructed}
@@ -42,9 +42,9 @@ residual-pair h a b = pair (table-of h a (both-fit h a b)) (table-of h b (both-f
 unfoldable pub no-residual : Header → List ℕ
 no-residual h = replicate 1024 (cond (header-fits h) (raised (hdr-depth h) (pos 0)) 0)
 
--- the HDR sample of every mapped sample of a table, without residual
+-- the HDR sample of every mapped sample of a run, without residual; 0 past its end
 unfoldable pub finished-code : Header → List ℕ → ℕ → ℕ
-finished-code h mapped s = cond (header-fits h) (reconstructed (hdr-depth h) (at mapped s) (pos 0)) 0
+finished-code h mapped s = coded (header-fits h) (length mapped) (λ i. reconstructed (hdr-depth h) (at mapped i) (pos 0)) s
 
 unfoldable pub finished-table : Header → List ℕ → List ℕ
 finished-table h mapped = table 1024 (finished-code h mapped)
