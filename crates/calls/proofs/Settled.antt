@@ -79,6 +79,7 @@ leaves-settled =
       extent-of = λ κs a r r' s s' p q. p ∙ sym q;
       is-used = λ κs a r r' s s' p q. p ∙ sym q;
       joined = λ κs a r r' s s' p q. p ∙ sym q;
+      four = λ κs a r r' s s' p q. p .0 ∙ sym (q .0);
       looked-up-output = λ κs a r r' s s' p q. p ∙ sym (q);
       added-up-output = λ κs a r r' s s' p q. p ∙ sym (q);
       cut-out = λ κs a r r' s s' p q. p ∙ sym q;

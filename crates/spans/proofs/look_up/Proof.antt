@@ -1,10 +1,13 @@
 -- `spans::look_up` meets its contract: the output is painted so far. Assumes nothing.
+use mathlib.Core.Path.{ap}
 use borrow.Author.Needs.{needs}
 use Prim.Native.Nat.{_-_, _≤_}
 use native.Mathlib.Omega.{arith}
 use lib.ListN.{length-set}
+use Rattle.runs.specs.inner.Loops.{at}
 use Rattle.runs.proofs.Painting.{PaintedFrom, paint-none, paint-more, paint-four, paint-on, paint-all}
 use Rattle.spans.specs.inner.Spans.{looked-up}
+use Rattle.spans.proofs.Fours.{given-at}
 use Rattle.spans.proofs.look_up.Statement.{statement}
 use Rattle.spans.proofs.look_up.Tie as tie
 
@@ -21,17 +24,19 @@ abbrev μ-loop2 : tie.MeasureT-loop2
 μ-loop2 table base output₀ n i₀ output i = n - i
 
 loop-again : tie.Need-loop-again Inv-loop μ-loop Inv-loop2 μ-loop2
+unfolding looked-up
 loop-again c =
+    let st : tie.Start Inv-loop μ-loop Inv-loop2 μ-loop2 = search needs in
     let lp : tie.At-loop Inv-loop μ-loop Inv-loop2 μ-loop2 = search needs in
-    let t : tie.After-looked-up Inv-loop μ-loop Inv-loop2 μ-loop2 = search needs in
-    let u : tie.After-looked-up2 Inv-loop μ-loop Inv-loop2 μ-loop2 = search needs in
-    let v : tie.After-looked-up3 Inv-loop μ-loop Inv-loop2 μ-loop2 = search needs in
-    (omega arith, paint-four (lp .loop .inv .1) (omega arith) (t .looked-up .ensures) (u .looked-up2 .ensures) (v .looked-up3 .ensures) (c .looked-up4 .ensures))
+    let f : tie.After-four Inv-loop μ-loop Inv-loop2 μ-loop2 = search needs in
+    let table = at (st .args .table .now) in
+    let g = given-at (lp .loop .i) (st .args .base .now) (omega arith) (f .four .ensures .1) in
+    (omega arith, paint-four (lp .loop .inv .1) (omega arith) (ap table (g .first)) (ap table (g .second)) (ap table (g .third)) (ap table (g .fourth)))
 
 loop2-again : tie.Need-loop2-again Inv-loop μ-loop Inv-loop2 μ-loop2
 loop2-again c =
     let lp : tie.At-loop2 Inv-loop μ-loop Inv-loop2 μ-loop2 = search needs in
-    (omega arith, paint-more (lp .loop2 .inv .1) (omega arith) (c .looked-up5 .ensures))
+    (omega arith, paint-more (lp .loop2 .inv .1) (omega arith) (c .looked-up .ensures))
 
 returns : tie.Need-returns Inv-loop μ-loop Inv-loop2 μ-loop2
 returns c =
@@ -50,25 +55,31 @@ look-up-spec =
     (λ c κs. search needs)
     (λ c. (omega arith, paint-none _ _ _))
     (λ c. omega arith)
-    (λ c κs. omega arith)
+    (λ c. omega arith)
+    (λ c. omega arith)
+    (λ c. omega arith)
+    (λ c. omega arith)
+    (λ c. omega arith)
+    (λ c κs. search needs)
+    (λ c. search needs)
+    (λ c. search needs)
+    (λ c. search needs)
+    (λ c. search needs)
+    (λ c. search needs)
+    (λ c. search needs)
+    (λ c. search needs)
+    (λ c. search needs)
     (λ c. search needs)
     (λ c. omega arith)
-    (λ c. omega arith)
-    (λ c κs. omega arith)
     (λ c. omega arith)
     (λ c. search needs)
     (λ c. rw length-set (omega arith))
     (λ c. omega arith)
-    (λ c κs. omega arith)
-    (λ c. omega arith)
     (λ c. search needs)
     (λ c. rw (length-set, length-set) (omega arith))
     (λ c. omega arith)
-    (λ c κs. omega arith)
-    (λ c. omega arith)
     (λ c. search needs)
     (λ c. rw (length-set, length-set, length-set) (omega arith))
-    (λ c. omega arith)
     (λ c. omega arith)
     loop-again
     (λ c. let lp : tie.At-loop Inv-loop μ-loop Inv-loop2 μ-loop2 = search needs in (lp .loop .inv .0, paint-none _ _ _))

@@ -1,6 +1,10 @@
 -- What the loop over a run of samples writes at an index. An index of a table is taken below its size, so any sample is one.
+use mathlib.Core.Path.{_≡_}
+use mathlib.Core.Bool.{cond}
 use mathlib.Core.List.{List}
-use Prim.Native.Nat.{ℕ, _%_}
+use Prim.Native.Nat.{ℕ, _+_, _*_, _/_, _%_, _^_}
+use lib.Dec.{ltb}
+use lib.ListN.{length}
 use Rattle.runs.specs.inner.Loops.{at}
 
 -- what a table of 1024 places has for a sample
@@ -10,3 +14,14 @@ entry table code = at table (code % 1024)
 -- by a table of finished samples
 unfoldable pub looked-up : List ℕ → List ℕ → ℕ → ℕ
 looked-up table base i = entry table (at base i)
+
+-- four samples as one number, the first one lowest; 0 where there are no four
+unfoldable pub four : List ℕ → ℕ
+four part = cond (ltb (length part) 4) 0 (at part 0 + at part 1 * 2 ^ 16 + at part 2 * 2 ^ 32 + at part 3 * 2 ^ 48)
+
+-- a number that gives four samples of a run, from i on: shifted, it has the remainder of each
+pub record Given (run : List ℕ) (i w : ℕ) : Type 0 where
+  pub first : w % 1024 ≡ at run i % 1024
+  pub second : w / 2 ^ 16 % 1024 ≡ at run (i + 1) % 1024
+  pub third : w / 2 ^ 32 % 1024 ≡ at run (i + 2) % 1024
+  pub fourth : w / 2 ^ 48 % 1024 ≡ at run (i + 3) % 1024
