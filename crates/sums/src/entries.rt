@@ -1,14 +1,23 @@
 // What is written for one sample by two tables, whatever the samples: the remainders are indices of the tables.
 ghost use mathlib.Core.Path.{_≡_};
-ghost use Prim.Native.Nat.{_+_, _<_, _≤_};
-ghost use lib.ListN.{length, set};
-ghost use Rattle.sums.specs.inner.Sums.{sixteenth, summed};
+ghost use Prim.Native.Nat.{_+_, _<_};
+ghost use lib.ListN.{length};
+ghost use Rattle.sums.specs.inner.Sums.{sixteenth, sum-of, summed};
 
 // The sum is made in 64 bits, so that no table can make it wrap.
 pub(crate) fn sixteenth_of(v: u16, r: u32) -> u16
     ensures { λ u. ⌜ u ≡ sixteenth (v + r) ⌝ }
 {
     (((v as u64) + (r as u64)) / 16 % 65536) as u16
+}
+
+// Of two samples that are the lowest bits of two numbers.
+pub(crate) fn sum_of(mapped: &[u16; 1024], raised: &[u32; 1024], s: u64, e: u64) -> u16
+    ensures { λ r. ⌜ r ≡ sum-of (now (mapped .entry)) (now (raised .entry)) s e ⌝ }
+{
+    let v = mapped[(s % 1024) as usize];
+    let r = raised[(e % 1024) as usize];
+    sixteenth_of(v, r)
 }
 
 pub(crate) fn summed(
@@ -23,17 +32,6 @@ pub(crate) fn summed(
 {
     let s = base[i];
     let e = enhancement[i];
-    let v = mapped[(s % 1024) as usize];
-    let r = raised[(e % 1024) as usize];
-    let h = sixteenth_of(v, r);
+    let h = sum_of(mapped, raised, s as u64, e as u64);
     h
-}
-
-// Two samples stored, after all their loads.
-pub(crate) fn store_two(output: &mut [u16], i: usize, a: u16, b: u16)
-    requires { ⌜ i + 2 ≤ length (now output) ⌝ }
-    ensures { λ _. ⌜ now (output .exit) ≡ set (set (now (output .entry)) i a) (i + 1) b ⌝ }
-{
-    output[i] = a;
-    output[i + 1] = b;
 }

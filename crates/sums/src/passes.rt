@@ -2,8 +2,9 @@
 // part's end asks; its own length is one that a word can hold, which is not known of a number in a struct.
 use crate::Cut;
 use crate::Part;
-use crate::entries::store_two;
+use crate::entries::sum_of;
 use crate::entries::summed;
+use spans::four;
 use spans::least;
 ghost use mathlib.Core.Path.{_≡_};
 ghost use Prim.Native.Nat.{_-_, _/_, _^_, _<_, _≤_, min};
@@ -11,7 +12,7 @@ ghost use lib.ListN.{length};
 ghost use Rattle.runs.specs.Runs.{painted, between};
 ghost use Rattle.sums.specs.inner.Sums.{summed, lowered-at};
 
-// Four samples a turn, two stored after the loads of both: a loop of one sample waits for its own counting.
+// Four samples a turn, loaded at once and stored after all their loads: a loop of one sample waits for its own counting.
 pub(crate) fn sum_up(
     mapped: &[u16; 1024],
     raised: &[u32; 1024],
@@ -26,14 +27,18 @@ pub(crate) fn sum_up(
     let n = least(p.to, output.len());
     let mut i = p.from;
     while 4 <= n - i {
-        let a = summed(mapped, raised, base, enhancement, i);
-        let b = summed(mapped, raised, base, enhancement, i + 1);
-        store_two(output, i, a, b);
-        let j = i + 2;
-        let c = summed(mapped, raised, base, enhancement, j);
-        let d = summed(mapped, raised, base, enhancement, j + 1);
-        store_two(output, j, c, d);
-        i = j + 2;
+        let j = i + 4;
+        let w = four(&base[i..j]);
+        let x = four(&enhancement[i..j]);
+        let a = sum_of(mapped, raised, w, x);
+        let b = sum_of(mapped, raised, w >> 16, x >> 16);
+        let c = sum_of(mapped, raised, w >> 32, x >> 32);
+        let d = sum_of(mapped, raised, w >> 48, x >> 48);
+        output[i] = a;
+        output[i + 1] = b;
+        output[i + 2] = c;
+        output[i + 3] = d;
+        i = j;
     }
     while i < n {
         output[i] = summed(mapped, raised, base, enhancement, i);

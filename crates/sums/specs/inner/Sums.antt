@@ -17,8 +17,11 @@ abbrev pub cut-of : Cut → ℕ → ℕ
 cut-of c sum = lower-by c (sixteenth sum)
 
 -- by tables of mapped samples and of raised residuals: their sum, and the sample that is cut out of it
+abbrev pub sum-of : List ℕ → List ℕ → ℕ → ℕ → ℕ
+sum-of mapped raised s e = sixteenth (entry mapped s + entry raised e)
+
 unfoldable pub summed : List ℕ → List ℕ → List ℕ → List ℕ → ℕ → ℕ
-summed mapped raised base enhancement i = sixteenth (entry mapped (at base i) + entry raised (at enhancement i))
+summed mapped raised base enhancement i = sum-of mapped raised (at base i) (at enhancement i)
 
 unfoldable pub added-up : List ℕ → List ℕ → Cut → List ℕ → List ℕ → ℕ → ℕ
 added-up mapped raised cuts base enhancement i = cut-of cuts (entry mapped (at base i) + entry raised (at enhancement i))
