@@ -82,7 +82,7 @@ pub nlq-facts : (h : Header) (q : Nlq) → nlq-fits h q ≡ true → NlqFacts h 
 unfolding nlq-fits
 nlq-facts h q e =
     let t = each (nlq-tests h q) e in
-    record { maximum = unsigned-le h _ (t .1 .0); slope = unsigned-le h _ (t .1 .1 .0); threshold = unsigned-le h _ (t .1 .1 .1 .0) }
+    record { offset = ltb-true _ _ (t .0); maximum = unsigned-le h _ (t .1 .0); slope = unsigned-le h _ (t .1 .1 .0); threshold = unsigned-le h _ (t .1 .1 .1 .0) }
 
 -- what is asked of a component is asked of its inverse quantization
 pub nlq-of : (k : ℕ) (h : Header) (c : Component) → usable k h c ≡ true → (header-fits h && nlq-fits h (c .nlq)) ≡ true

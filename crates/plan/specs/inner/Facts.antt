@@ -50,6 +50,7 @@ pub record ComponentFacts (k : ℕ) (h : Header) (c : Component) : Type 0 where
 
 -- the numbers of a component's inverse quantization
 pub record NlqFacts (h : Header) (q : Nlq) : Type 0 where
+  pub offset : q .offset < 2 ^ el-depth h
   pub maximum : q .maximum ≤ 2 ^ (h .d + 1)
   pub slope : q .slope ≤ 2 ^ (h .d + 1)
   pub threshold : q .threshold ≤ 2 ^ (h .d + 1)
