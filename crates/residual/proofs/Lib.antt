@@ -1,3 +1,4 @@
 pub mod Words
 pub mod Raising
+pub mod Courses
 pub mod Meaning

@@ -9,7 +9,7 @@ ghost use Rattle.standard.specs.Residual.{sign-of, scaled, limit, limited, resi
 ghost use Rattle.plan.specs.Parameters.{quantization};
 ghost use Rattle.residual.specs.inner.Steps.{NlqRanges};
 
-fn distance(e: u16, offset: u16) -> i64
+pub(crate) fn distance(e: u16, offset: u16) -> i64
     ensures is { λ r. ⌜ r ≡ pos e -ℤ pos offset ⌝ }
     ensures low { λ r. ⌜ natAbs r ≤ 2 ^ 17 ⌝ }
 {
@@ -23,7 +23,7 @@ fn sign(rr: i64) -> i64
 }
 
 // The distance doubled, drawn in by one, scaled by the slope, and moved out by the threshold.
-fn scale(el: u32, slope: u64, threshold: u64, rr: i64, sign: i64) -> i64
+pub(crate) fn scale(el: u32, slope: u64, threshold: u64, rr: i64, sign: i64) -> i64
     requires { ⌜ (el ≤ 10) × (slope ≤ 2 ^ 33) × (threshold ≤ 2 ^ 33) × (natAbs rr ≤ 2 ^ 17) × (natAbs sign ≤ 1) ⌝ }
     ensures { λ r. ⌜ r ≡ scaled el slope threshold rr sign ⌝ }
 {
@@ -32,7 +32,7 @@ fn scale(el: u32, slope: u64, threshold: u64, rr: i64, sign: i64) -> i64
     (rr * 2 - sign) * f * (slope as i64) + (threshold as i64) * g * sign
 }
 
-fn limit_of(el: u32, maximum: u64) -> i64
+pub(crate) fn limit_of(el: u32, maximum: u64) -> i64
     requires { ⌜ (el ≤ 10) × (maximum ≤ 2 ^ 33) ⌝ }
     ensures is { λ r. ⌜ r ≡ limit el maximum ⌝ }
     ensures low { λ r. ⌜ natAbs r ≤ 2 ^ 44 ⌝ }
@@ -40,7 +40,7 @@ fn limit_of(el: u32, maximum: u64) -> i64
     (maximum as i64) * (power(10 - el + 1) as i64)
 }
 
-fn limit_to(most: i64, dq: i64) -> i64
+pub(crate) fn limit_to(most: i64, dq: i64) -> i64
     requires { ⌜ natAbs most ≤ 2 ^ 44 ⌝ }
     ensures { λ r. ⌜ r ≡ limited most dq ⌝ }
 {
@@ -54,7 +54,7 @@ fn limit_to(most: i64, dq: i64) -> i64
 }
 
 // A number divided by a power of two, and rounded down: `/` would round a negative one toward 0.
-fn down(l: i64, k: u32) -> i64
+pub(crate) fn down(l: i64, k: u32) -> i64
     requires { ⌜ k ≤ 32 ⌝ }
     ensures { λ r. ⌜ r ≡ shrZ l (2 ^ k) ⌝ }
 {

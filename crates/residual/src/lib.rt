@@ -1,8 +1,10 @@
 // The residual (5.4.3.2) and the reconstruction (5.4.3.3), as tables of what every code, mapped sample and sum comes to.
 // Each is zeros where the header or the quantization cannot be computed with.
+mod growing; // the residuals of the codes on one side of the offset
 mod inverse; // the inverse quantization of one enhancement layer sample
 mod rounding; // the reconstruction of one HDR sample
 
+use growing::go_on;
 use inverse::residual_of;
 use plan::Header;
 use plan::Nlq;
@@ -16,7 +18,7 @@ use sums::Cut;
 ghost use mathlib.Core.Path.{_≡_};
 ghost use Rattle.residual.specs.inner.Tables.{residual-table, no-pair, residual-pair, no-residual, finished-table, cut-numbers};
 
-// The raised residual of each code.
+// The raised residual of each code: those below the offset, that at it, and those above it.
 pub fn residual_table(h: Header, q: Nlq) -> [u32; 1024]
     ensures { λ r. ⌜ r ≡ residual-table h q ⌝ }
 {
@@ -28,11 +30,10 @@ pub fn residual_table(h: Header, q: Nlq) -> [u32; 1024]
     let out = (h.hdr as u32) + 8;
     let codes = power(el) as u16;
     let mut table = [0u32; 1024];
-    let mut e: u16 = 0;
-    while e < codes {
-        table[e as usize] = raise(out, residual_of(el, d, q, e));
-        e += 1;
-    }
+    let o = q.offset;
+    go_on(&mut table, 0, o, el, d, out, q, -1);
+    table[o as usize] = raise(out, 0);
+    go_on(&mut table, o + 1, codes, el, d, out, q, 1);
     table
 }
 

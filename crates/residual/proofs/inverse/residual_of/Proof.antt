@@ -1,30 +1,19 @@
 -- The residual by its steps: what each callee was passed is what the machine reads back from its words. Assumes nothing.
 use mathlib.Core.Path.{_≡_, ap, _∙_}
 use borrow.Author.Needs.{needs, sfits-of}
-use Prim.Native.Nat.{ℕ, _<_, _≤_, _+_, _-_, _^_, zero-le}
-use native.Mathlib.Nat.{le-trans}
-use native.Mathlib.Omega.{arith}
-use lib.Pow.{pow-mono}
+use Prim.Native.Nat.{_-_, _^_, zero-le}
 use lib.IntN.{ℤ}
-use lib.Signed.{mag, shrZ}
+use lib.Signed.{shrZ}
 use mir.Syntax.{w64}
-use mir.Val.{ofZ, toZ}
-use mir.Facts.{toZ-ofZ}
+use mir.Val.{ofZ}
 use Rattle.standard.specs.Residual.{sign-of}
 use Rattle.standard.proofs.Residuals.{sign-le, none, steps, residual-le}
 use Rattle.words.proofs.Holding.{Holds, result}
 use Rattle.words.proofs.Tests.{zero-word}
 use Rattle.plan.specs.Parameters.{quantization}
+use Rattle.residual.proofs.Words.{within, read-back}
 use Rattle.residual.proofs.inverse.residual_of.Statement.{statement}
 use Rattle.residual.proofs.inverse.residual_of.Tie as tie
-
--- a bound that goes with d, as a number
-within : {n d : ℕ} → n ≤ 2 ^ (d + 1) → d ≤ 32 → n ≤ 2 ^ 33
-within {d = d} h l = le-trans h (pow-mono {i = d + 1} {j = 33} (omega arith))
-
--- a call's result, as the next one reads it
-read-back : (z : ℤ) → mag z < 2 ^ 63 → toZ w64 (ofZ w64 z) ≡ z
-read-back z h = toZ-ofZ (record { sfits = h })
 
 rr : (c : tie.After-distance) → Holds (ofZ w64 (c .distance .result)) (c .distance .result) (2 ^ 17)
 rr c = result (c .distance .ok) (c .distance .ensures .1)
