@@ -1428,7 +1428,8 @@ def test_what_inspect_answers():
     rules = inspect_block.answer(["--rules"], read)
     assert rules[0] == "1 short: hand over the whole block, up to its last byte"
     assert rules[10:] == ["11 sample: the decoder handed over a broken picture",
-                          "12 room: lend a slice of the block's length or more", "shown"]
+                          "12 room: lend a slice of the block's length or more",
+                          "13 method: compose this plan without a table", "shown"]
 
 
 def test_text_by_hand():

@@ -29,7 +29,7 @@ def tables():
             for line in refusals.splitlines() if re.match(r"\| \d", line)]
     names = {int(row[0]): row[1] for row in rows if len(row) == 3}
     advice = {int(row[0]): row[1] for row in rows if len(row) == 2}
-    assert set(names) == set(advice) == set(range(1, 13))
+    assert set(names) == set(advice) == set(range(1, 14))
     return names, advice
 
 
