@@ -1,8 +1,9 @@
-"""Answers the five vector streams; README.md gives their formats.
+"""Answers the six vector streams; README.md gives their formats.
 
     python3 answers.py sample_vectors < stdin > stdout
     python3 answers.py block_vectors < stdin > stdout
     python3 answers.py night_vectors < stdin > stdout
+    python3 answers.py table_vectors < stdin > stdout
     python3 answers.py plan_vectors < stdin > stdout
     python3 answers.py write_vectors < stdin > stdout
 """
@@ -16,6 +17,7 @@ import jobs
 import nights
 import places
 import plan_text
+import tables
 import writer
 from composer import Plan, map_place
 
@@ -222,22 +224,107 @@ def _night_answer(stream):
         base, enhancement = runs[stream.u8()], _enhancement(runs, stream.u8())
         number, left = nights.row_job(plan, open_ticket, ticket, first, count, base,
                                       enhancement, output, marks)
-        lines.append("refused %d" % number if number != 0 else _done(left))
+        lines.append(job_line(number, left))
     return lines + [decimal(output), decimal(marks)]
+
+
+# Table vectors: the kinds of a step.
+OPEN, PLAIN_JOB, TABLE_JOB, FILL, DAMAGE, SHOW, ANOTHER_BLOCK = range(7)
+
+
+def untouched_table(size):
+    """The table before the first step: no filling gives this."""
+    return [50000 + at % 1000 for at in range(size)]
+
+
+def table_answers(data, by=tables):
+    """The lines of all cases; `by` has the two calls that know a table, fill_table and table_job."""
+    stream = Stream(data)
+    lines = []
+    while stream.more():
+        lines += TableCase(stream, by).lines(stream)
+    return lines
+
+
+class TableCase:
+    """The memory of one case: two plans, runs, one table, and two pictures of marks and output."""
+
+    def __init__(self, stream, by):
+        self.by = by
+        self.plans = [_valid_plan(stream), Plan()]
+        self.runs = [stream.samples() for _ in range(stream.u8())]
+        self.table = untouched_table(stream.u16())
+        self.marks, self.outputs = [], []
+        for _ in range(2):
+            self.marks.append(bytearray(stream.bytes(stream.u16())))
+            self.outputs.append(untouched_output(stream.u16()))
+
+    def lines(self, stream):
+        """One line a step, then what the two pictures hold."""
+        lines = [self.step(stream) for _ in range(stream.u16())]
+        for output, marks in zip(self.outputs, self.marks):
+            lines += [decimal(output), decimal(marks)]
+        return lines
+
+    def step(self, stream):
+        steps = {OPEN: self.open, PLAIN_JOB: self.plain_job, TABLE_JOB: self.table_job, FILL: self.fill,
+                 DAMAGE: self.damage, SHOW: self.show, ANOTHER_BLOCK: self.another_block}
+        return steps[stream.u8()](stream)
+
+    def open(self, stream):
+        picture, plan, ticket = stream.u8(), self.plans[stream.u8()], stream.u32()
+        number, opened = nights.open_picture(plan, ticket, self.marks[picture])
+        return "refused %d" % number if number != 0 else "open %d" % opened
+
+    def plain_job(self, stream):
+        plan, *lent = self.job(stream)
+        return job_line(*nights.row_job(plan, *lent))
+
+    def table_job(self, stream):
+        plan, *lent = self.job(stream)
+        return job_line(*self.by.table_job(plan, self.table, *lent))
+
+    def job(self, stream):
+        """What both calls are given: the plan, the tickets, the row pairs, the runs and the marks."""
+        picture, plan = stream.u8(), self.plans[stream.u8()]
+        open_ticket, ticket, first, count = stream.u32(), stream.u32(), stream.u16(), stream.u16()
+        base, enhancement = self.runs[stream.u8()], _enhancement(self.runs, stream.u8())
+        return plan, open_ticket, ticket, first, count, base, enhancement, self.outputs[picture], self.marks[picture]
+
+    def fill(self, stream):
+        number = self.by.fill_table(self.plans[stream.u8()], self.table)
+        return "refused %d" % number if number != 0 else "filled"
+
+    def damage(self, stream):
+        begin, end, value = stream.u16(), stream.u16(), stream.u16()
+        if end > len(self.table):
+            raise ValueError("only what the table has is damaged")
+        self.table[begin:end] = [value] * max(end - begin, 0)
+        return "damaged"
+
+    def show(self, stream):
+        begin, end = stream.u16(), stream.u16()
+        return decimal(self.table[begin:end])
+
+    def another_block(self, stream):
+        self.plans[0] = _valid_plan(stream)
+        return "read"
 
 
 def _enhancement(runs, place):
     return [] if place == NO_RUN else runs[place]
 
 
-def _done(left):
+def job_line(number, left):
+    if number != 0:
+        return "refused %d" % number
     return "complete" if left == 0 else "left %d" % left
 
 
 def main():
     answers = {"sample_vectors": sample_answers, "block_vectors": block_answers,
                "night_vectors": night_answers, "plan_vectors": plan_answers,
-               "write_vectors": write_answers}
+               "write_vectors": write_answers, "table_vectors": table_answers}
     if len(sys.argv) != 2 or sys.argv[1] not in answers:
         sys.exit("usage: answers.py %s < stdin" % "|".join(answers))
     for line in answers[sys.argv[1]](sys.stdin.buffer.read()):

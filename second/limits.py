@@ -106,6 +106,11 @@ def carried(n, version):
     return pieces(n) - 1 if version == VERSIONS[0] else pieces(n)
 
 
+def table_values(BL_bit_depth):
+    """Of a table that is lent: luma, Cb and Cr, each a value for every code."""
+    return 3 << BL_bit_depth
+
+
 MMR_TERMS = 7                       # of each order
 
 

@@ -5,7 +5,7 @@ a refused call changes nothing.  No call keeps anything for the next one.
 """
 
 import jobs
-from composer import compose_row_pairs
+from composer import compose_row_pairs, map_place
 
 WAITING, DONE = 0, 1        # a mark; any value but 0 reads as done
 
@@ -35,10 +35,15 @@ def row_job(plan, open_ticket, ticket, first, count, base, enhancement, output, 
                           output, marks)
     if number != 0:
         return number, None
-    output[:] = compose_row_pairs(plan, first, count, base, enhancement, output)
+    return 0, compose_and_mark(plan, first, count, base, enhancement, output, marks, map_place)
+
+
+def compose_and_mark(plan, first, count, base, enhancement, output, marks, mapping):
+    """What an accepted job does, whichever call it is; give the rows left.  `mapping` is what map_place is."""
+    output[:] = compose_row_pairs(plan, first, count, base, enhancement, output, mapping)
     for k in range(first, first + count):
         marks[k] = DONE
-    return 0, rows_left(marks)
+    return rows_left(marks)
 
 
 def rows_left(marks):
