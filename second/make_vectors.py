@@ -30,6 +30,7 @@ import places
 import plan_cases
 import sample_cases
 import search_cases
+import table_cases
 import write_cases
 
 
@@ -75,6 +76,38 @@ def night_stream(nights):
         for job in night.jobs:
             out += struct.pack(">BIIHHBB", *job)
     return bytes(out)
+
+
+# The fields of a step of table_vectors after its kind, but for a block's.
+STEP_FIELDS = {answers.OPEN: ">BBI", answers.PLAIN_JOB: ">BBIIHHBB", answers.TABLE_JOB: ">BBIIHHBB",
+               answers.FILL: ">B", answers.DAMAGE: ">HHH", answers.SHOW: ">HH"}
+
+
+def table_stream(cases):
+    """stdin of table_vectors."""
+    out = bytearray()
+    for case in cases:
+        out += sized_block(case.plan, case.version) + bytes([len(case.runs)])
+        for run in case.runs:
+            out += u16_run(run)
+        out += struct.pack(">H", case.table)
+        for one in case.pictures:
+            out += struct.pack(">H", len(one.marks)) + bytes(one.marks) + struct.pack(">H", one.output_size)
+        out += struct.pack(">H", len(case.steps))
+        for step in case.steps:
+            out += bytes([step.kind]) + step_bytes(step)
+    return bytes(out)
+
+
+def step_bytes(step):
+    if step.kind == answers.ANOTHER_BLOCK:
+        return sized_block(*step.fields)
+    return struct.pack(STEP_FIELDS[step.kind], *step.fields)
+
+
+def sized_block(plan, version):
+    data = block.write(plan, version)
+    return struct.pack(">H", len(data)) + data
 
 
 def plan_stream(groups):
@@ -201,6 +234,10 @@ def make(outdir):
     written = write_cases.all_groups()
     write_stdin = write_stream(written)
     write_lines = answers.write_answers(write_stdin)
+    tabled = table_cases.all_cases()
+    table_stdin = table_stream(tabled)
+    table_lines = answers.table_answers(table_stdin)
+    table_cases.checked(tabled, table_lines)
     files = {
         os.path.join("sample_vectors", "stdin"): sample_stdin,
         os.path.join("sample_vectors", "stdout"): text(sample_lines),
@@ -212,12 +249,15 @@ def make(outdir):
         os.path.join("plan_vectors", "stdout"): text(plan_lines),
         os.path.join("write_vectors", "stdin"): write_stdin,
         os.path.join("write_vectors", "stdout"): text(write_lines),
+        os.path.join("table_vectors", "stdin"): table_stdin,
+        os.path.join("table_vectors", "stdout"): text(table_lines),
         **example_files(outdir), **inspect_files(outdir), **author_files(), **ten_lines_files(outdir)}
     summary = (sample_summary(samples, sample_lines)
                + table("block_vectors", reads, block_lines)
                + night_summary(nights, night_lines)
                + table("plan_vectors", cases_of(groups), plan_lines)
                + table("write_vectors", cases_of(written), write_lines)
+               + table_summary(tabled, table_lines)
                + compose_summary(files[os.path.join("compose_file", "stdout")])
                + author_summary(files[os.path.join("author", "stdout")]))
     return files, summary
@@ -256,6 +296,22 @@ def night_summary(nights, lines):
             len(found), kind, counts(given[0] for given in found),
             counts(answer for given in found for answer in given[1:])))
     return out
+
+
+STEP_NAMES = {answers.OPEN: "openings", answers.PLAIN_JOB: "plain jobs", answers.TABLE_JOB: "table jobs",
+              answers.FILL: "fillings"}
+
+
+def table_summary(cases, lines):
+    """Counts of openings, jobs and fillings by answer, then cases by kind."""
+    given = {kind: [] for kind in STEP_NAMES}
+    for case, shown in zip(cases, table_cases.lines_of(cases, lines)):
+        for step, line in zip(case.steps, shown):
+            if step.kind in given:
+                given[step.kind].append(night_answer_of(line))
+    out = ["table_vectors: %d cases, %d steps" % (len(cases), sum(len(case.steps) for case in cases))]
+    out += ["  %s: %s" % (STEP_NAMES[kind], counts(found)) for kind, found in given.items()]
+    return out + ["  %5d %s" % (number, kind) for kind, number in Counter(case.kind for case in cases).items()]
 
 
 def compose_summary(said):

@@ -28,11 +28,14 @@ import plan_cases
 import plan_text
 import sample_cases
 import search_cases
+import table_cases
+import tables
 import words
 import write_cases
 import writer
 import wrong_mappers
 import wrong_readers
+import wrong_tables
 import wrong_writers
 from composer import (Plan, assign_pivot_values, compose_row_pairs, derive_pivot_idx,
                       inverse_quantization, map_place, map_sample, reconstruct)
@@ -44,6 +47,7 @@ all_nights = functools.lru_cache(maxsize=None)(night_cases.all_nights)
 plan_groups = functools.lru_cache(maxsize=None)(plan_cases.all_groups)
 block_bases_and_cases = functools.lru_cache(maxsize=None)(block_cases.all_cases)
 all_samples = functools.lru_cache(maxsize=None)(make_vectors.all_samples)
+all_tables = functools.lru_cache(maxsize=None)(table_cases.all_cases)
 
 
 @functools.lru_cache(maxsize=None)
@@ -1204,10 +1208,314 @@ def test_night_limits():
         assert not jobs.breaks_rule_7(night.plan)
 
 
+# Tables that are lent -------------------------------------------------------
+
+def three_plan(depth=10, d=15):
+    """2 x 4, at d = 15: luma comes to 64 s, Cb to 1/2 whatever it is, Cr to s x s / 16; version 1."""
+    plan = tall_plan(2)
+    one = 1 << d
+    for cmp, coef in enumerate([(0, one), (one // 2, 0), (0, 0, one)]):
+        set_section(plan, cmp, (0, (1 << depth) - 1), [coef])
+    return plan
+
+
+def thirteen_plan():
+    """The same with an MMR piece that no sample meets: Cr's piece 1, between equal pivots."""
+    plan = three_plan()
+    set_section(plan, 2, (0, 512, 512, 1023), [(0, 0, 1 << 15), numbers(1, c0=5), (0, 0, 1 << 15)])
+    return plan
+
+
+def test_filling():
+    """By hand: 3 x 1,024 values, 64 s, 32,768 and s x s / 16 rounded down; at depth 8 three times 256 values."""
+    table = [9] * 3072
+    assert tables.fill_table(three_plan(), table) == 0 and len(table) == 3072
+    assert [table[at] for at in (0, 1, 2, 1023)] == [0, 64, 128, 65472]
+    assert table[1024:2048] == [32768] * 1024
+    assert [table[2048 + s] for s in (0, 3, 4, 5, 512, 1023)] == [0, 0, 1, 1, 16384, 65408]
+    # E10 and E11: codes below the first pivot and above the last one; E14: 65,280 at code 255 of depth 8
+    assert tables.fill_table(small_plan(pivots=(100, 200)), table) == 0
+    assert [table[1024 * cmp + s] for cmp in range(3) for s in (0, 50, 150, 900)] == [6400, 6400, 9600, 12800] * 3
+    low, table = small_plan(8, 13, (0, 255), [(0, 1 << 13)]), [9] * 768
+    assert tables.fill_table(low, table) == 0 and table == [256 * s for s in range(256)] * 3
+    # E4 and E6: cut at 65,535, and raised to 0
+    table = [9] * 3072
+    for coef, value in (((63 << 15, 0), 65535), ((0, -1 << 15), 0)):
+        assert tables.fill_table(small_plan(pieces=[coef]), table) == 0 and table == [value] * 3072
+
+
+def test_filling_refusals():
+    """7, 9, 13 in this order, the faults mended one by one, and nothing is written."""
+    mmr = thirteen_plan()
+    broken = places.changed(mmr, [(("ccm_profile",), 2)])
+    for size in (0, 1, 767, 768, 769, 3071, 3073):
+        table = [9] * size
+        assert tables.fill_table(broken, table) == 7 and tables.fill_table(mmr, table) == 9
+        assert tables.fill_table(three_plan(), table) == 9 and table == [9] * size
+    table = [9] * 3072
+    assert tables.fill_table(broken, table) == 7 and tables.fill_table(Plan(), table) == 7
+    assert tables.fill_table(mmr, table) == 13 and table == [9] * 3072
+    assert tables.fill_table(Plan(), [9] * 768) == 7
+    low = small_plan(8, 13, (0, 255), [(0, 1 << 13)])
+    assert [tables.fill_table(low, [9] * size) for size in (768, 3072)] == [0, 9]
+    # Rule 13 asks for each piece in use: 0 to n + 1 of Cb and of Cr.
+    for cmp in (1, 2):
+        for piece in range(4):
+            pieces = [(0, 1 << 15)] * 4
+            pieces[piece] = numbers(2)
+            plan = three_plan()
+            set_section(plan, cmp, (0, 512, 512, 1023), pieces)
+            assert tables.breaks_rule_13(plan) and tables.fill_table(plan, table) == 13
+    assert not tables.breaks_rule_13(three_plan()) and table == [9] * 3072
+
+
+def table_room():
+    """A room of 2 x 4, its base code 4, and a table filled from its plan."""
+    room = Room(three_plan(), [0, 0])
+    room.base, room.table = [4] * 12, [9] * 3072
+    assert tables.fill_table(room.plan, room.table) == 0
+    return room
+
+
+def table_job(room, first, count, plan=None, own=77, base=None, enhancement=()):
+    return tables.table_job(plan or room.plan, room.table, 77, own, first, count, room.base if base is None else base,
+                            list(enhancement), room.output, room.marks)
+
+
+def test_table_job():
+    """By hand, 12 bits, so that v comes to (v + 8) / 16: code 4 of luma is 256, of Cb 32,768, of Cr 1."""
+    room = table_room()
+    assert table_job(room, 0, 1) == (0, 1) and list(room.marks) == [1, 0]
+    # Row pair 0 is luma 0..3, Cb 8, Cr 10.
+    after_one = [16, 16, 16, 16, 60004, 60005, 60006, 60007, 2048, 60009, 0, 60011]
+    assert room.output == after_one
+    assert table_job(room, 0, 1) == (0, 1) and room.output == after_one
+    # Whatever the table holds: 100 comes to 6, 65,535 is cut to 4,095, and one above 512 the residual is 114.
+    room.table[4], room.table[1024 + 4], room.table[2048 + 4] = 100, 65535, 7
+    assert table_job(room, 0, 2) == (0, 0)
+    assert room.output == [6] * 8 + [4095] * 2 + [0] * 2                # 7 + 8 >> 4 is 0
+    assert table_job(room, 1, 1, enhancement=[513] * 12) == (0, 0)      # 214 + 8 >> 4 is 13, 121 + 8 >> 4 is 8
+    assert room.output == [6] * 4 + [13] * 4 + [4095] * 2 + [0, 8]
+    before = list(room.table)
+    room.table[:] = [0] * 3072
+    assert table_job(room, 0, 2, enhancement=[511] * 12) == (0, 0) and room.output == [0] * 12      # -114 is raised
+    # The sample is not clamped to pivots: with those at 100 and 200 code 4 is looked up at 4.
+    narrow = places.changed(room.plan, [(("pred_pivot_value", 0, 0), 100), (("pred_pivot_value", 0, 1), 100)])
+    room.table[:] = before
+    assert table_job(room, 0, 1, plan=narrow) == (0, 0) and room.output[:4] == [6] * 4
+    assert room.table == before                                         # a job only reads it
+
+
+def test_table_job_refusals():
+    """7, 8, 9, 13, 10, 11: the faults are mended one by one, nothing is written."""
+    room, wild = table_room(), [1024] * 12
+    room.marks = bytearray([9, 0])
+    right, mmr = list(room.table), thirteen_plan()
+    broken = places.changed(mmr, [(("ccm_profile",), 2)])
+    for size in (0, 768, 3071, 3073):
+        room.table = [9] * size
+        assert table_job(room, 0, 3, plan=broken, own=78, base=wild) == (7, None)
+        assert table_job(room, 0, 3, plan=mmr, own=78, base=wild) == (8, None)
+        assert table_job(room, 0, 3, plan=mmr, base=wild) == (9, None)
+        assert table_job(room, 0, 3, base=wild) == table_job(room, 0, 1, base=wild) == (9, None)
+        assert table_job(room, 0, 1) == (9, None) and room.table == [9] * size
+    room.table = list(right)
+    assert table_job(room, 0, 3, plan=mmr, base=wild[1:]) == (9, None)
+    assert table_job(room, 0, 3, plan=mmr, base=wild) == (13, None)
+    assert table_job(room, 0, 1, plan=mmr, base=wild) == (13, None)
+    assert table_job(room, 0, 0, plan=mmr) == table_job(room, 0, 1, plan=mmr) == (13, None)
+    assert table_job(room, 0, 3, base=wild) == (10, None)
+    assert table_job(room, 0, 2, base=wild) == (11, None)
+    assert table_job(room, 0, 1, enhancement=wild) == (11, None)
+    assert room.table == right and room.output == answers.untouched_output(12) and list(room.marks) == [9, 0]
+    # The plain call composes with the MMR piece, which no sample meets.
+    assert room.job(1, 1, plan=mmr) == (0, 0) and room.output[4:8] == [16] * 4
+
+
+class TableNight:
+    """A case of table_vectors, what is said of it, and before each step the plan and the table as they stand."""
+
+    def __init__(self, case):
+        self.case = case
+        self.lines = self.said()
+        self.outputs, self.marks = ([[int(word) for word in line.split()] for line in self.lines[at::2]]
+                                    for at in (len(case.steps), len(case.steps) + 1))
+
+    def said(self, steps=None, by=tables):
+        case = self.case if steps is None else self.case._replace(steps=steps)
+        return answers.table_answers(make_vectors.table_stream([case]), by)
+
+    def walk(self):
+        """(step, line, plan 0, table, the plan that it was filled from or None where something else touched it)."""
+        plan, table, source = self.case.plan, answers.untouched_table(self.case.table), None
+        for step, line in zip(self.case.steps, self.lines):
+            yield step, line, plan, table, source
+            if line == "filled":
+                table, source = tables.mapped_values(plan), plan
+            elif step.kind == answers.DAMAGE:
+                begin, end, value = step.fields
+                table, source = table[:begin] + [value] * (end - begin) + table[end:], None
+            elif step.kind == answers.ANOTHER_BLOCK:
+                plan = step.fields[0]
+
+    def lent(self, job):
+        return lent_runs(self.case, job)
+
+
+@functools.lru_cache(maxsize=None)
+def table_nights():
+    return [TableNight(case) for case in all_tables()]
+
+
+JOBS = (answers.PLAIN_JOB, answers.TABLE_JOB)
+
+
+def job_of(step):
+    """(picture, job)."""
+    return step.fields[0], night_cases.Job(*step.fields[1:])
+
+
+def test_table_cases():
+    """Each kind of case tells the wrong programs that it is said to show, and each wrong program is shown."""
+    kinds = {}
+    for night in table_nights():
+        kinds.setdefault(night.case.kind, []).append(night)
+    assert set(kinds) == set(table_cases.SHOWS)
+    assert_shown(table_cases.SHOWS, kinds, wrong_tables.WRONG, lambda night, wrong: night.said(by=wrong) != night.lines)
+    assert shown_names(table_cases.SHOWS) == set(wrong_tables.WRONG)
+
+
+def test_both_calls_alike():
+    """Where the table was filled from the plan and not touched since, the other call says and leaves the same."""
+    exchanged = 0
+    for night in table_nights():
+        steps = []
+        for step, _, plan, _, source in night.walk():
+            alike = step.kind in JOBS and source == plan
+            exchanged += alike
+            steps.append(step._replace(kind=sum(JOBS) - step.kind) if alike else step)
+        assert night.said(steps) == night.lines, night.case.kind
+    assert exchanged > 1200
+
+
+def test_demand_3_of_tables():
+    """Demand 3's sentence with both calls, for each of two pictures by itself."""
+    accepted, refused, complete, both = {}, 0, 0, 0
+    chosen = [night for night in table_nights() if night.case.kind in ("mixed night", "two pictures")]
+    for night in chosen:
+        plan = night.case.plan
+        for picture in range(1 + (night.case.kind == "two pictures")):
+            opened, named, lent, calls = None, set(), [], set()
+            for step, line, _, _, source in night.walk():
+                if step.kind == answers.OPEN and step.fields[0] == picture:
+                    opened = step.fields[2]
+                    assert line == "open %d" % opened
+                if step.kind not in JOBS or step.fields[0] != picture:
+                    continue
+                job = job_of(step)[1]
+                assert job.open_ticket == opened
+                if line.startswith("refused"):
+                    refused += 1
+                    continue
+                assert job.plan == night_cases.BLOCK_PLAN and source == plan        # the premises
+                lent.append(night.lent(job))
+                calls.add(step.kind)
+                accepted[step.kind] = accepted.get(step.kind, 0) + 1
+                named |= set(range(job.first, job.first + job.count))
+                left = plan.half_height - len(named)
+                assert line == ("complete" if left == 0 else "left %d" % left)
+            for base, enhancement in lent:
+                assert base == lent[0][0] and (plan.disable_residual_flag or enhancement == lent[0][1])
+            for at, before in enumerate(answers.untouched_output(plan.picture_samples)):
+                if place_of(plan, at)[1] in named:
+                    before = composed_sample(plan, at, *lent[0])
+                assert night.outputs[picture][at] == before
+            complete += len(named) == plan.half_height
+            both += len(calls) == 2
+    assert min(accepted.values()) > 250 and refused > 250 and complete > 40 and both > 40
+    assert {(night.case.plan.half_height, night.case.plan.BL_bit_depth) for night in chosen} == {
+        (rows, depth) for rows in range(1, 9) for depth in limits.DEPTHS}
+
+
+def looked_up(plan, table, at, base, enhancement):
+    """Demand 2 for one sample of the second call."""
+    cmp, _ = place_of(plan, at)
+    v, used = table[cmp * (1 << plan.BL_bit_depth) + base[at]], plan.disable_residual_flag == 0 and enhancement != []
+    r = composer.residual(plan, cmp, enhancement[at]) if used else 0
+    return reconstruct(v, r, 0, plan.hdr_bit_depth)
+
+
+def test_any_table():
+    """Every case: the last accepted job that named a row pair decides its samples, by the table as it was then."""
+    for night in table_nights():
+        last = [{}, {}]
+        for step, line, plan, table, _ in night.walk():
+            if step.kind == answers.SHOW:
+                assert line == answers.decimal(table[step.fields[0]:step.fields[1]])
+            if step.kind in JOBS and not line.startswith("refused"):
+                picture, job = job_of(step)
+                for k in range(job.first, job.first + job.count):
+                    last[picture][k] = plan, table if step.kind == answers.TABLE_JOB else None, night.lent(job)
+        for picture, one in enumerate(night.case.pictures):
+            for at, sample in enumerate(answers.untouched_output(one.output_size)):
+                k = place_of(night.case.plan, at)[1]
+                if k in last[picture]:
+                    plan, table, lent = last[picture][k]
+                    sample = composed_sample(plan, at, *lent) if table is None else looked_up(plan, table, at, *lent)
+                assert night.outputs[picture][at] == sample
+
+
+def test_order_of_tables():
+    """Every choice of rules that a table job can break is there, at both depths, and the order's first is shown."""
+    found = set()
+    for night in table_nights():
+        if night.case.kind != "order of the rules":
+            continue
+        for step, line, plan, table, _ in night.walk():
+            if step.kind == answers.TABLE_JOB:
+                rules = set(broken_rules(night.case, job_of(step)[1]))
+                if len(table) != 3 << plan.BL_bit_depth:
+                    rules.add(9)
+                if 7 not in rules and any(composer.has_mmr(plan, cmp) for cmp in (1, 2)):
+                    rules.add(13)
+                found.add((plan.BL_bit_depth, *sorted(rules)))
+                first = [rule for rule in (7, 8, 9, 13, 10, 11) if rule in rules][:1]
+                assert line.startswith("refused") == (rules != set())
+                assert line == "refused %d" % first[0] if first else True
+    # 32 choices without 13, of the others 16: the plan of zeros has no MMR piece
+    assert len(found) == 2 * (32 + 16)
+
+
+def test_table_limits():
+    """What README.md says of the sizes in table_vectors; every value of a table of each depth is shown."""
+    lengths, whole = set(), set()
+    for night in table_nights():
+        case = night.case
+        assert len(case.runs) <= table_cases.LARGEST_RUNS and case.table <= table_cases.LARGEST_TABLE
+        assert max([case.plan.picture_samples, *map(len, case.runs)]) <= night_cases.LARGEST_RUN
+        for one in case.pictures:
+            assert len(one.marks) <= night_cases.LARGEST_MARKS and one.output_size <= night_cases.LARGEST_RUN
+        for step, line, plan, _, source in night.walk():
+            assert not jobs.breaks_rule_7(plan)
+            if step.kind in (answers.SHOW, answers.DAMAGE):
+                assert step.fields[0] <= step.fields[1] <= case.table
+            if step.kind == answers.SHOW and source == plan and line.count(" ") == 3 * (1 << plan.BL_bit_depth) - 1:
+                whole.add((plan.BL_bit_depth, case.kind))
+            if step.kind == answers.FILL:
+                lengths.add((plan.BL_bit_depth, case.table, line))
+    kinds = {kind for kind in table_cases.SHOWS if kind.startswith("filled") and "another" not in kind}
+    assert len(kinds) == 5 and {(depth, kind) for depth in limits.DEPTHS for kind in kinds} <= whole
+    for depth, right in ((8, 768), (10, 3072)):
+        assert (depth, right, "filled") in lengths
+        for size in {0, 1, 767, 768, 769, 3071, 3072, 3073, 3080} - {right}:
+            assert (depth, size, "refused 9") in lengths and (depth, size, "filled") not in lengths
+
+
 def test_stream_limits():
     """What README.md says of the sizes in the other streams, and that the longest of all is there."""
     bases, cases = block_bases_and_cases()
-    blocks = [block.write(some.plan, some.version) for some in [*all_samples(), *all_nights(), *plan_groups()]]
+    blocks = [block.write(some.plan, some.version)
+              for some in [*all_samples(), *all_nights(), *plan_groups(), *all_tables()]]
     for data in [*bases, *blocks]:
         assert len(data) <= write_cases.LARGEST_BLOCK
     for longest in limits.LONGEST_BLOCK.values():
