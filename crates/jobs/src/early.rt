@@ -8,14 +8,14 @@ ghost use Rattle.plan.specs.Rule7.{fitting};
 ghost use Rattle.jobs.specs.Jobs.{opening-refusal};
 
 // Rule 7 comes before every other: 7 where the plan meets it, and otherwise the number given.
-pub(crate) fn seven_or(plan: Plan, number: u8) -> u8
+pub fn seven_or(plan: Plan, number: u8) -> u8
     ensures { λ r. ⌜ r ≡ cond (fitting plan) number 7 ⌝ }
 {
     if passes(plan) { number } else { 7 }
 }
 
 // Rule 9 on the marks: there is one for each row pair.
-pub(crate) fn is_marked(plan: Plan, marks: usize) -> bool
+pub fn is_marked(plan: Plan, marks: usize) -> bool
     ensures { λ r. ⌜ r ≡ eqb marks (plan .header .pairs) ⌝ }
 {
     let h = plan.header;

@@ -1,5 +1,5 @@
 // A picture is opened, and its row pairs are composed by jobs that may come in any order and any number of times.
-mod early; // the rules before any picture is looked at
+pub mod early; // the rules before any picture is looked at
 
 use compose::compose_row_pairs;
 use early::is_marked;

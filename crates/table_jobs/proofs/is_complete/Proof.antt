@@ -1,0 +1,18 @@
+use borrow.Author.Needs.{needs}
+use Rattle.table_jobs.proofs.is_complete.Statement.{statement}
+use Rattle.table_jobs.proofs.is_complete.Tie as tie
+
+enum-known-answer : tie.Need-enum-known-answer
+enum-known-answer c = search needs
+
+enum-told : tie.Need-enum-told
+enum-told c = search needs
+
+returns : tie.Need-returns
+returns c = rw (c .before .answer .given .1)
+
+returns-2 : tie.Need-returns-2
+returns-2 c = search needs
+
+pub is-complete-spec : {M : Type 1} → statement M
+is-complete-spec = tie.close (tie.spec enum-known-answer enum-told returns returns-2)
