@@ -18,6 +18,12 @@ use Rattle.jobs.specs.Jobs.{opened-says}
 use Rattle.jobs.specs.declared.Answer.{Answer}
 use Rattle.jobs.specs.declared.Answer.the-variants as answered
 use Rattle.jobs.specs.Jobs as jobs
+use Rattle.filling.specs.declared.Filling.{Filling}
+use Rattle.filling.specs.declared.Filling.the-variants as filled
+use Rattle.filling.specs.Filling as filling
+use Rattle.table_jobs.specs.declared.TableAnswer.{TableAnswer}
+use Rattle.table_jobs.specs.declared.TableAnswer.the-variants as looked-up
+use Rattle.table_jobs.specs.TableJobs as table-jobs
 use Rattle.calls.specs.Settled.{Settled}
 use Rattle.calls.specs.inner.Leaves.{LeavesSettled}
 
@@ -54,6 +60,18 @@ one-job (answered.Done n) (answered.Refused k) e = absurd (true≢false (sym (sa
 one-job (answered.Refused k) (answered.Done n) e = absurd (true≢false (same-case e))
 one-job (answered.Refused k) (answered.Refused l) e = ap answered.Refused (same-number e)
 
+one-filled : (r r' : Filling) → filling.says r ≡ filling.says r' → r ≡ r'
+one-filled filled.Filled filled.Filled e = refl
+one-filled filled.Filled (filled.Refused k) e = absurd (true≢false (sym (same-case e)))
+one-filled (filled.Refused k) filled.Filled e = absurd (true≢false (same-case e))
+one-filled (filled.Refused k) (filled.Refused l) e = ap filled.Refused (same-number e)
+
+one-table-job : (r r' : TableAnswer) → table-jobs.says r ≡ table-jobs.says r' → r ≡ r'
+one-table-job (looked-up.Done n) (looked-up.Done m) e = ap looked-up.Done (same-value e)
+one-table-job (looked-up.Done n) (looked-up.Refused k) e = absurd (true≢false (sym (same-case e)))
+one-table-job (looked-up.Refused k) (looked-up.Done n) e = absurd (true≢false (same-case e))
+one-table-job (looked-up.Refused k) (looked-up.Refused l) e = ap looked-up.Refused (same-number e)
+
 pub settled : Settled
 settled =
     record {
@@ -70,6 +88,13 @@ settled =
       compose-job = λ κs a r r' s s' p q. one-job r r' (p .0 ∙ sym (q .0));
       job-output = λ κs a r r' s s' p q. p .1 .0 ∙ sym (q .1 .0);
       job-marks = λ κs a r r' s s' p q. p .1 .1 ∙ sym (q .1 .1);
+      fill-table = λ κs a r r' s s' p q. one-filled r r' (p .0 ∙ sym (q .0));
+      filled-table = λ κs a r r' s s' p q. p .1 ∙ sym (q .1);
+      compose-by-table = λ κs a r r' s s' p q. one-composed r r' (p .0 ∙ sym (q .0));
+      composed-by-table = λ κs a r r' s s' p q. p .1 ∙ sym (q .1);
+      compose-table-job = λ κs a r r' s s' p q. one-table-job r r' (p .0 ∙ sym (q .0));
+      table-job-output = λ κs a r r' s s' p q. p .1 .0 ∙ sym (q .1 .0);
+      table-job-marks = λ κs a r r' s s' p q. p .1 .1 ∙ sym (q .1 .1);
     }
 
 pub leaves-settled : LeavesSettled
@@ -125,4 +150,20 @@ leaves-settled =
       opened-number = λ κs a r r' s s' p q. p ∙ sym q;
       job-number = λ κs a r r' s s' p q. p ∙ sym q;
       is-complete = λ κs a r r' s s' p q. p ∙ sym q;
+      all-polynomials = λ κs a r r' s s' p q. p ∙ sym q;
+      refusal-of-pictures = λ κs a r r' s s' p q. p ∙ sym q;
+      is-wrong-length = λ κs a r r' s s' p q. p ∙ sym q;
+      plain-plane = λ κs a r r' s s' p q. p ∙ sym q;
+      enhanced-plane = λ κs a r r' s s' p q. p ∙ sym q;
+      table-size = λ κs a r r' s s' p q. p ∙ sym q;
+      filling-number = λ κs a r r' s s' p q. p ∙ sym q;
+      seven-or = λ κs a r r' s s' p q. p ∙ sym q;
+      is-marked = λ κs a r r' s s' p q. p ∙ sym q;
+      table-job-number = λ κs a r r' s s' p q. p ∙ sym q;
+      table-job-complete = λ κs a r r' s s' p q. p ∙ sym q;
+      speed-fill = λ κs a r r' s s' p q. p .0 ∙ sym (q .0);
+      speed-table = λ κs a r r' s s' p q. p .1 ∙ sym (q .1);
+      speed-table-job = λ κs a r r' s s' p q. p .0 ∙ sym (q .0);
+      speed-table-output = λ κs a r r' s s' p q. p .1 .0 ∙ sym (q .1 .0);
+      speed-table-marks = λ κs a r r' s s' p q. p .1 .1 ∙ sym (q .1 .1);
     }

@@ -12,7 +12,10 @@ use Rattle.writer.proofs.length.Reads as length-promise
 use Rattle.compose.proofs.compose_row_pairs.Reads as compose-row-pairs-promise
 use Rattle.jobs.proofs.open_picture.Reads as open-picture-promise
 use Rattle.jobs.proofs.compose_job.Reads as compose-job-promise
-use Rattle.calls.specs.Calls.{Ended, marks-opened, afterwards}
+use Rattle.filling.proofs.fill_table.Reads as fill-table-promise
+use Rattle.table_compose.proofs.compose_by_table.Reads as compose-by-table-promise
+use Rattle.table_jobs.proofs.compose_table_job.Reads as compose-table-job-promise
+use Rattle.calls.specs.Calls.{Ended, marks-opened, table-filled, done, table-done}
 
 -- of a promise: two calls that were handed the same answer the same, and leave the same in a run that they were lent
 module _ {K : Type 0} {Handed Answered Left : K → Type 0} (Post : (κs : K) → Handed κs → Answered κs → Left κs → Type 0) where
@@ -38,5 +41,12 @@ pub record Settled : Type 0 where
   pub open-picture : OneAnswer open-picture-promise.Post
   pub opened-marks : OneContent open-picture-promise.Post marks-opened
   pub compose-job : OneAnswer compose-job-promise.Post
-  pub job-output : OneContent compose-job-promise.Post (λ c. afterwards c .output)
-  pub job-marks : OneContent compose-job-promise.Post (λ c. afterwards c .marks)
+  pub job-output : OneContent compose-job-promise.Post (λ c. done c .afterwards .output)
+  pub job-marks : OneContent compose-job-promise.Post (λ c. done c .afterwards .marks)
+  pub fill-table : OneAnswer fill-table-promise.Post
+  pub filled-table : OneContent fill-table-promise.Post table-filled
+  pub compose-by-table : OneAnswer compose-by-table-promise.Post
+  pub composed-by-table : OneContent compose-by-table-promise.Post (λ c. let pictures = c .left .1 .1 .1 .1 in now (pictures .1 .1 .0))
+  pub compose-table-job : OneAnswer compose-table-job-promise.Post
+  pub table-job-output : OneContent compose-table-job-promise.Post (λ c. table-done c .afterwards .output)
+  pub table-job-marks : OneContent compose-table-job-promise.Post (λ c. table-done c .afterwards .marks)

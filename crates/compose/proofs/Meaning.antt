@@ -65,7 +65,7 @@ luma-polynomials h c ok p b =
     omega arith
 
 -- a chroma sample of a component that goes by a table goes by itself alone
-chroma-alone : (p : Plan) (base : List ℕ) (c : Component) → can-map (p .header) c ≡ true → (s j : ℕ) → chroma-at p base c s j ≡ mapped (bl-depth (p .header)) (p .header .d) (mapping c) s
+pub chroma-alone : (p : Plan) (base : List ℕ) (c : Component) → can-map (p .header) c ≡ true → (s j : ℕ) → chroma-at p base c s j ≡ mapped (bl-depth (p .header)) (p .header .d) (mapping c) s
 unfolding chroma-at chroma-mapped
 chroma-alone p base c can s j =
     let q = pivot-idx (pivot-value (mapping c .pred-pivot-value)) (c .n) s in

@@ -60,6 +60,23 @@ pub at-filled : (p : Plan) (i : ℕ) → i < table-size (p .header) → getD (fi
 unfolding filled
 at-filled p i b = at-painted _ _ _ i 0 (rw (length-replicate {A = ℕ} (table-size (p .header)) 0) b)
 
+-- ---- the components of a plan that has a table
+module _ (p : Plan) (fits : fitting p ≡ true) (polynomials : has-mmr p ≡ false) where
+  all-usable : (usable 0 (p .header) (p .y) && (usable 0 (p .header) (p .cb) && usable 0 (p .header) (p .cr))) ≡ true
+  all-usable = all-luma p ∙ rw (fits, polynomials)
+
+  can : (c : Component) → usable 0 (p .header) c ≡ true → can-map (p .header) c ≡ true
+  can c u = usable-maps 0 (p .header) c u (polynomial-at (p .header) c u)
+
+  pub y-maps : can-map (p .header) (p .y) ≡ true
+  y-maps = can (p .y) (both (usable 0 (p .header) (p .y)) _ all-usable .0)
+
+  pub cb-maps : can-map (p .header) (p .cb) ≡ true
+  cb-maps = can (p .cb) (both (usable 0 (p .header) (p .cb)) _ (both (usable 0 (p .header) (p .y)) _ all-usable .1) .0)
+
+  pub cr-maps : can-map (p .header) (p .cr) ≡ true
+  cr-maps = can (p .cr) (both (usable 0 (p .header) (p .cb)) _ (both (usable 0 (p .header) (p .y)) _ all-usable .1) .1)
+
 -- ---- the parts
 module _ (p : Plan) (t : List ℕ) (ok : Accepted p (length t)) where
   abbrev h : Header
@@ -68,24 +85,18 @@ module _ (p : Plan) (t : List ℕ) (ok : Accepted p (length t)) where
   abbrev codes : ℕ
   codes = 2 ^ bl-depth h
 
-  all-usable : (usable 0 h (p .y) && (usable 0 h (p .cb) && usable 0 h (p .cr))) ≡ true
-  all-usable = all-luma p ∙ rw (ok .fits, ok .polynomials)
-
-  can : (c : Component) → usable 0 h c ≡ true → can-map h c ≡ true
-  can c u = usable-maps 0 h c u (polynomial-at h c u)
-
   few : codes ≤ 1024
   few = pow-mono {i = bl-depth h} {j = 10} (omega (arith, header-facts p (ok .fits) .base-depth))
 
   -- part k, where component c's table was made
-  of-part : (k from : ℕ) (c : Component) → from ≡ k * codes → usable 0 h c ≡ true → part-component p k ≡ c → (i : ℕ) → between from (from + codes) i ≡ true → at (mapped-table h c) (i - from) ≡ table-entry p i
+  of-part : (k from : ℕ) (c : Component) → from ≡ k * codes → can-map h c ≡ true → part-component p k ≡ c → (i : ℕ) → between from (from + codes) i ≡ true → at (mapped-table h c) (i - from) ≡ table-entry p i
   of-part k from c begins u is i e =
       let b = between-true _ _ i e in
       let s : i - from < codes = omega (arith, b .0, b .1) in
       let low : i - from < 1024 = omega (arith, few) in
       let sum : k * codes + (i - from) ≡ i = omega (arith, b .0) in
       ap (at (mapped-table h c)) (sym (mod-eq-of-lt low))
-      ∙ mapped-found h c (can c u) (i - from) s
+      ∙ mapped-found h c u (i - from) s
       ∙ ap (λ (d : Component). mapped (bl-depth h) (h .d) (mapping d) (i - from)) (sym is)
       ∙ sym (entry-at p k (i - from) s)
       ∙ ap (table-entry p) sum
@@ -97,18 +108,16 @@ module _ (p : Plan) (t : List ℕ) (ok : Accepted p (length t)) where
       → l3 ≡ painted (between (2 * c) (2 * c + c)) (λ i. at red (i - 2 * c)) l2
       → l3 ≡ filled p
   parts-filled luma blue red l1 l2 l3 c is y cb cr e1 e2 e3 =
-      let u = both (usable 0 h (p .y)) _ all-usable in
-      let v = both (usable 0 h (p .cb)) _ (u .1) in
       let one : l1 ≡ painted (between 0 codes) (table-entry p) t =
       e1 ∙ ap₂ (λ (n : ℕ) (m : List ℕ). painted (between 0 (0 + n)) (λ i. at m (i - 0)) t) is y
-      ∙ painted-cong _ _ _ _ t (λ i b. refl) (λ i b s. of-part 0 0 (p .y) (omega arith) (u .0) refl i s)
+      ∙ painted-cong _ _ _ _ t (λ i b. refl) (λ i b s. of-part 0 0 (p .y) (omega arith) (y-maps p (ok .fits) (ok .polynomials)) refl i s)
       ∙ ap (λ (n : ℕ). painted (between 0 n) (table-entry p) t) (zero-add codes) in
       let two : l2 ≡ painted (between codes (codes + codes)) (table-entry p) l1 =
       e2 ∙ ap₂ (λ (n : ℕ) (m : List ℕ). painted (between n (n + n)) (λ i. at m (i - n)) l1) is cb
-      ∙ painted-cong _ _ _ _ l1 (λ i b. refl) (λ i b s. of-part 1 codes (p .cb) (omega arith) (v .0) refl i s) in
+      ∙ painted-cong _ _ _ _ l1 (λ i b. refl) (λ i b s. of-part 1 codes (p .cb) (omega arith) (cb-maps p (ok .fits) (ok .polynomials)) refl i s) in
       let three : l3 ≡ painted (between (2 * codes) (2 * codes + codes)) (table-entry p) l2 =
       e3 ∙ ap₂ (λ (n : ℕ) (m : List ℕ). painted (between (2 * n) (2 * n + n)) (λ i. at m (i - 2 * n)) l2) is cr
-      ∙ painted-cong _ _ _ _ l2 (λ i b. refl) (λ i b s. of-part 2 (2 * codes) (p .cr) refl (v .1) refl i s) in
+      ∙ painted-cong _ _ _ _ l2 (λ i b. refl) (λ i b s. of-part 2 (2 * codes) (p .cr) refl (cr-maps p (ok .fits) (ok .polynomials)) refl i s) in
       let double : codes + codes ≡ 2 * codes = omega arith in
       let all : l3 ≡ painted (between 0 (2 * codes + codes)) (table-entry p) t =
       three

@@ -45,9 +45,12 @@ pub record Job : Type 0 where
 abbrev pub job : Plan → ℕ → ℕ → ℕ → ℕ → List ℕ → List ℕ → Job
 job p o t f n b e = record { work = given p f n b e; open-ticket = o; ticket = t }
 
--- a job that is lent a table of mapped samples
+-- the same job, lent a table of mapped samples
+abbrev pub lend : List ℕ → Job → Job
+lend table j = record { work = given-table (j .work .plan) table (j .work .first) (j .work .count) (j .work .base) (j .work .enhancement); open-ticket = j .open-ticket; ticket = j .ticket }
+
 abbrev pub table-job : Plan → List ℕ → ℕ → ℕ → ℕ → ℕ → List ℕ → List ℕ → Job
-table-job p table o t f n b e = record { work = given-table p table f n b e; open-ticket = o; ticket = t }
+table-job p table o t f n b e = lend table (job p o t f n b e)
 
 -- what a job tests before it looks at the pictures: rule 8, and rule 9 on the marks
 abbrev pub before-pictures : Job → ℕ → List Rule

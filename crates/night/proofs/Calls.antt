@@ -9,16 +9,21 @@ use Rattle.refusals.specs.Refusals.{Outcome, granted, outcome}
 use Rattle.plan.specs.declared.Plan.{Plan}
 use Rattle.jobs.specs.Jobs.{Job, job-answer, opening-accepted, opening-answer, opening-refusal}
 use Rattle.calls.specs.Calls.{Memory, memory, OpenCall, opening-plan, opening-ticket, marks-before, marks-opened, opening-said}
-use Rattle.calls.specs.Calls.{JobCall, job-of, before, afterwards, said}
+use Rattle.calls.specs.Calls.{AnyJobCall, plain, lent, any-done}
 use Rattle.night.specs.Night.{step, run, opened, Leaves, Calls, none, more, answers, AnyChainOfCalls}
 use Rattle.night.proofs.Night.{standby-night}
+
+-- a call of either kind ends as its promise says
+kept : (c : AnyJobCall) → (let d = any-done c in (d .said ≡ job-answer (d .given) (d .before .output) (d .before .marks)) × (d .afterwards ≡ step (d .given) (d .before)))
+kept (plain c) = (c .kept .0, ap₂ memory (c .kept .1 .0) (c .kept .1 .1))
+kept (lent c) = (c .kept .0, ap₂ memory (c .kept .1 .0) (c .kept .1 .1))
 
 as-run : {m n : Memory} {js : List Job} {os : List Outcome} → Calls m js os n → (n ≡ run js m) × (os ≡ answers js m)
 unfolding run answers
 as-run none = (refl, refl)
 as-run (more {js} c cs) =
-    let after : afterwards c ≡ step (job-of c) (before c) = ap₂ memory (c .kept .1 .0) (c .kept .1 .1) in
-    (as-run cs .0 ∙ ap (run js) after, ap₂ (λ (x : Outcome) (xs : List Outcome). x ∷ xs) (c .kept .0) (as-run cs .1 ∙ ap (answers js) after))
+    let after = kept c in
+    (as-run cs .0 ∙ ap (run js) (after .1), ap₂ (λ (x : Outcome) (xs : List Outcome). x ∷ xs) (after .0) (as-run cs .1 ∙ ap (answers js) (after .1)))
 
 -- an opening that is not refused was accepted, and hands back the ticket that it was given
 opened-as : (p : Plan) (ticket n : ℕ) → opening-answer p ticket n .refused ≡ false → (opening-accepted p n ≡ true) × (opening-answer p ticket n ≡ granted (ticket ∷ []))
@@ -46,6 +51,6 @@ any-chain-of-calls o opens base enhancement output js os m calls ks =
         answers-are = as-run calls .1 ∙ ap (answers js) start;
         finished = finished;
         next = λ c e k h.
-            as-said (sym (c .kept .0 ∙ ap (λ (x : Memory). job-answer (job-of c) (x .output) (x .marks)) (e ∙ memory-is))) (finished .next (job-of c) k h);
+            as-said (sym (kept c .0 ∙ ap (λ (x : Memory). job-answer (any-done c .given) (x .output) (x .marks)) (e ∙ memory-is))) (finished .next (any-done c .given) k h);
       },
     )

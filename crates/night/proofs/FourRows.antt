@@ -9,13 +9,13 @@ use Rattle.picture.specs.Picture.{of-plane, pair-at}
 use Rattle.plan.specs.Ranges.{format-fits, size-fits}
 use Rattle.plan.specs.Rule7.{every, row-fits, piece-fits, piece-empty, pivots-fit, pieces-fit, nlq-fits, component-fits, fitting}
 use Rattle.rules.specs.Rules.{names, used, wrong-length, wrong-pairs, wrong-sample, rules}
-use Rattle.compose.specs.Composing.{chroma-at, mapped-at, residual-at, composed-at}
+use Rattle.compose.specs.Composing.{chroma-at, mapped-at, residual-at, composed-by}
 use Rattle.jobs.specs.Jobs.{job-refusal, accepted, output-after, marks-after, job-answer, opening-refusal, opening-accepted, opening-marks}
 use Rattle.night.specs.Night.{run}
 use Rattle.night.specs.FourRows.{FourRows}
 
 pub four-rows : FourRows
-unfolding mapped chroma-mapped polynomial pivot-idx first-above pivot-value poly-sum reconstructed between map-from painted any-from some at-least tally format-fits size-fits every row-fits piece-fits piece-empty pivots-fit pieces-fit nlq-fits component-fits fitting of-plane pair-at rules used chroma-at mapped-at residual-at composed-at outcome wrong-length wrong-pairs wrong-sample opening-refusal opening-accepted opening-marks job-refusal accepted names output-after marks-after job-answer run
+unfolding mapped chroma-mapped polynomial pivot-idx first-above pivot-value poly-sum reconstructed between map-from painted any-from some at-least tally format-fits size-fits every row-fits piece-fits piece-empty pivots-fit pieces-fit nlq-fits component-fits fitting of-plane pair-at rules used chroma-at mapped-at residual-at composed-by outcome wrong-length wrong-pairs wrong-sample opening-refusal opening-accepted opening-marks job-refusal accepted names output-after marks-after job-answer run
 four-rows =
     record {
       first = record { is-done = refl; rows = refl; all = refl };

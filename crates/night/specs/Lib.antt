@@ -1,2 +1,3 @@
 pub mod Night
+pub mod TwoPictures
 pub mod FourRows

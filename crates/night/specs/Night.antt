@@ -8,10 +8,11 @@ use lib.ListN.{length, getD}
 use Rattle.refusals.specs.Refusals.{Outcome, granted}
 use Rattle.plan.specs.declared.Plan.{Plan}
 use Rattle.picture.specs.Picture.{pair-at}
-use Rattle.rules.specs.Rules.{extent, names}
+use Rattle.rules.specs.Rules.{by-plan, by-table, extent, names}
 use Rattle.compose.specs.Composing.{composed-at}
 use Rattle.jobs.specs.Jobs.{Job, accepted, output-after, marks-after, job-answer, rows-left, complete, opening-accepted, opening-marks}
-use Rattle.calls.specs.Calls.{Memory, memory, OpenCall, opening-plan, opening-ticket, marks-before, marks-opened, opening-said, JobCall, job-of, before, afterwards, said}
+use Rattle.filling.specs.Filling.{filled}
+use Rattle.calls.specs.Calls.{Memory, memory, OpenCall, opening-plan, opening-ticket, marks-before, marks-opened, opening-said, AnyJobCall, any-done}
 
 -- what one job and then a sequence of jobs leaves in the memory that jobs write
 abbrev pub step : Job → Memory → Memory
@@ -47,9 +48,21 @@ pub record Keeps (p : Plan) (base enhancement : List ℕ) (a b : ℕ) (j : Job) 
   pub same-base : accepted j a b ≡ true → j .work .base ≡ base
   pub same-enhancement : accepted j a b ≡ true → p .header .disabled ≡ 0 → j .work .enhancement ≡ enhancement
 
-pub data AllKeep (p : Plan) (base enhancement : List ℕ) (a b : ℕ) : List Job → Type 0 where
-  none : AllKeep p base enhancement a b []
-  more : {j : Job} {js : List Job} → Keeps p base enhancement a b j → AllKeep p base enhancement a b js → AllKeep p base enhancement a b (j ∷ js)
+-- and the one premise more where there are tables: a table that an accepted job is lent was filled from the opening's plan and not touched since
+pub record KeepsTable (p : Plan) (a b : ℕ) (j : Job) : Type 0 where
+  pub same-table : accepted j a b ≡ true → (t : List ℕ) → j .work .source ≡ by-table t → t ≡ filled p
+
+-- what demand 3 asks of a job of either kind, and what it asked when there were plain jobs alone
+abbrev pub Asked : Plan → List ℕ → List ℕ → ℕ → ℕ → Job → Type 0
+Asked p base enhancement a b j = Keeps p base enhancement a b j × KeepsTable p a b j
+
+abbrev pub AskedPlain : Plan → List ℕ → List ℕ → ℕ → ℕ → Job → Type 0
+AskedPlain p base enhancement a b j = Keeps p base enhancement a b j × (j .work .source ≡ by-plan)
+
+-- each job of a sequence is as asked
+pub data All (P : Job → Type 0) : List Job → Type 0 where
+  none : All P []
+  more : {j : Job} {js : List Job} → P j → All P js → All P (j ∷ js)
 
 -- job j is one of a sequence
 pub data Sent (j : Job) : List Job → Type 0 where
@@ -62,8 +75,8 @@ pub record Leaves (o : Outcome) (left : ℕ) : Type 0 where
   pub rows : rows-left o ≡ left
   pub all : complete o ≡ eqb left 0
 
--- what demand 3 says after the jobs js, and of one job more
-pub record StaysFinished (p : Plan) (base enhancement output marks : List ℕ) (js : List Job) : Type 0 where
+-- what demand 3 says after the jobs js, and of one job more that is as asked
+pub record StaysFinished (P : Job → Type 0) (p : Plan) (base enhancement output marks : List ℕ) (js : List Job) : Type 0 where
   -- each row pair that some accepted job named holds what demand 2 says
   pub composed : (i : ℕ) → i < length output → named (length output) (length marks) js (pair-at (extent (p .header)) i) ≡ true → getD (run js (opened p output marks) .output) i 0 ≡ composed-at p base enhancement i
   -- every other row is as at the opening
@@ -71,25 +84,33 @@ pub record StaysFinished (p : Plan) (base enhancement output marks : List ℕ) (
   -- the output is as long as it was
   pub size : length (run js (opened p output marks) .output) ≡ length output
   -- the next job, if it is accepted, answers the row pairs that no accepted job so far, itself included, has named
-  pub next : (j : Job) → Keeps p base enhancement (length output) (length marks) j → accepted j (length output) (length marks) ≡ true →
+  pub next : (j : Job) → P j → accepted j (length output) (length marks) ≡ true →
       (let end = run js (opened p output marks) in
       Leaves (job-answer j (end .output) (end .marks)) (rows-left-after p (length output) (length marks) (js ++ (j ∷ []))))
   -- and a job that was sent before changes nothing when it is sent again
   pub sent-again : (j : Job) → Sent j js → run (js ++ (j ∷ [])) (opened p output marks) ≡ run js (opened p output marks)
 
--- demand 3, of every plan, picture, memory and sequence of jobs
-abbrev pub StandbyNight : Type 0
-StandbyNight =
+-- of every plan, picture, memory and sequence of jobs that are as asked
+abbrev Night : (Plan → List ℕ → List ℕ → ℕ → ℕ → Job → Type 0) → Type 0
+Night asked =
     (p : Plan) (base enhancement output marks : List ℕ) (js : List Job) →
     opening-accepted p (length marks) ≡ true →
-    AllKeep p base enhancement (length output) (length marks) js →
-    StaysFinished p base enhancement output marks js
+    All (asked p base enhancement (length output) (length marks)) js →
+    StaysFinished (asked p base enhancement (length output) (length marks)) p base enhancement output marks js
+
+-- demand 3: plain jobs and jobs that are lent a table, mixed in any order
+abbrev pub StandbyNight : Type 0
+StandbyNight = Night Asked
+
+-- and of plain jobs alone, as it was before there were tables
+abbrev pub PlainNight : Type 0
+PlainNight = Night AskedPlain
 
 -- ---- the same of the calls themselves, each of which ends as its promise says
 -- calls one after the other on one memory, with their jobs and what they said
 pub data Calls : Memory → List Job → List Outcome → Memory → Type 0 where
   none : {m : Memory} → Calls m [] [] m
-  more : {js : List Job} {os : List Outcome} {m : Memory} (c : JobCall) → Calls (afterwards c) js os m → Calls (before c) (job-of c ∷ js) (said c ∷ os) m
+  more : {js : List Job} {os : List Outcome} {m : Memory} (c : AnyJobCall) → Calls (any-done c .afterwards) js os m → Calls (any-done c .before) (any-done c .given ∷ js) (any-done c .said ∷ os) m
 
 -- the answer that each job of a sequence has at its place
 unfoldable pub answers : List Job → Memory → List Outcome
@@ -102,15 +123,15 @@ module _ (p : Plan) (base enhancement output marks : List ℕ) (js : List Job) w
     -- the memory and the answers are those of the theorem
     pub memory-is : m ≡ run js (opened p output marks)
     pub answers-are : os ≡ answers js (opened p output marks)
-    pub finished : StaysFinished p base enhancement output marks js
+    pub finished : StaysFinished (Asked p base enhancement (length output) (length marks)) p base enhancement output marks js
     -- the next call, if its job is accepted, answers the row pairs left
-    pub next : (c : JobCall) → before c ≡ m → Keeps p base enhancement (length output) (length marks) (job-of c) → accepted (job-of c) (length output) (length marks) ≡ true →
-        Leaves (said c) (rows-left-after p (length output) (length marks) (js ++ (job-of c ∷ [])))
+    pub next : (c : AnyJobCall) → any-done c .before ≡ m → Asked p base enhancement (length output) (length marks) (any-done c .given) → accepted (any-done c .given) (length output) (length marks) ≡ true →
+        Leaves (any-done c .said) (rows-left-after p (length output) (length marks) (js ++ (any-done c .given ∷ [])))
 
--- a call of `open_picture` that is not refused, and then any calls of `compose_job` that keep demand 3's premises
+-- a call of `open_picture` that is not refused, and then any calls of `compose_job` and `compose_table_job` that keep demand 3's premises
 abbrev pub AnyChainOfCalls : Type 0
 AnyChainOfCalls =
     (o : OpenCall) → opening-said o .refused ≡ false →
     (base enhancement output : List ℕ) (js : List Job) (os : List Outcome) (m : Memory) → Calls (memory output (marks-opened o)) js os m →
-    AllKeep (opening-plan o) base enhancement (length output) (length (marks-before o)) js →
+    All (Asked (opening-plan o) base enhancement (length output) (length (marks-before o))) js →
     (opening-said o ≡ granted (opening-ticket o ∷ [])) × CallsStayFinished (opening-plan o) base enhancement output (marks-before o) js os m

@@ -48,6 +48,19 @@ use Rattle.compose.proofs.number.Reads as composed-number-promise
 use Rattle.jobs.proofs.opened_number.Reads as opened-number-promise
 use Rattle.jobs.proofs.number.Reads as job-number-promise
 use Rattle.jobs.proofs.is_complete.Reads as is-complete-promise
+use Rattle.rule_seven.proofs.all_polynomials.Reads as all-polynomials-promise
+use Rattle.rules.proofs.refusal_of_pictures.Reads as refusal-of-pictures-promise
+use Rattle.rules.proofs.lengths.is_wrong_length.Reads as is-wrong-length-promise
+use Rattle.planes.proofs.plain_plane.Reads as plain-plane-promise
+use Rattle.planes.proofs.enhanced_plane.Reads as enhanced-plane-promise
+use Rattle.filling.proofs.table_size.Reads as table-size-promise
+use Rattle.filling.proofs.number.Reads as filling-number-promise
+use Rattle.jobs.proofs.early.seven_or.Reads as seven-or-promise
+use Rattle.jobs.proofs.early.is_marked.Reads as is-marked-promise
+use Rattle.table_jobs.proofs.number.Reads as table-job-number-promise
+use Rattle.table_jobs.proofs.is_complete.Reads as table-job-complete-promise
+use Rattle.speed.proofs.speed_fill.Reads as speed-fill-promise
+use Rattle.speed.proofs.speed_table_job.Reads as speed-table-job-promise
 use Rattle.calls.specs.Settled.{OneAnswer, OneContent}
 
 pub record LeavesSettled : Type 0 where
@@ -101,3 +114,19 @@ pub record LeavesSettled : Type 0 where
   pub opened-number : OneAnswer opened-number-promise.Post
   pub job-number : OneAnswer job-number-promise.Post
   pub is-complete : OneAnswer is-complete-promise.Post
+  pub all-polynomials : OneAnswer all-polynomials-promise.Post
+  pub refusal-of-pictures : OneAnswer refusal-of-pictures-promise.Post
+  pub is-wrong-length : OneAnswer is-wrong-length-promise.Post
+  pub plain-plane : OneContent plain-plane-promise.Post (λ c. now (c .left .1 .1 .1 .1 .1 .0))
+  pub enhanced-plane : OneContent enhanced-plane-promise.Post (λ c. now (c .left .1 .1 .1 .1 .1 .1 .1 .1 .0))
+  pub table-size : OneAnswer table-size-promise.Post
+  pub filling-number : OneAnswer filling-number-promise.Post
+  pub seven-or : OneAnswer seven-or-promise.Post
+  pub is-marked : OneAnswer is-marked-promise.Post
+  pub table-job-number : OneAnswer table-job-number-promise.Post
+  pub table-job-complete : OneAnswer table-job-complete-promise.Post
+  pub speed-fill : OneAnswer speed-fill-promise.Post
+  pub speed-table : OneContent speed-fill-promise.Post (λ c. now (c .left .1 .0))
+  pub speed-table-job : OneAnswer speed-table-job-promise.Post
+  pub speed-table-output : OneContent speed-table-job-promise.Post (λ c. let pictures = c .left .1 .1 .1 .1 .1 .1 in now (pictures .1 .1 .0))
+  pub speed-table-marks : OneContent speed-table-job-promise.Post (λ c. let pictures = c .left .1 .1 .1 .1 .1 .1 in now (pictures .1 .1 .1 .0))
