@@ -155,6 +155,7 @@ leaves-settled =
       is-wrong-length = λ κs a r r' s s' p q. p ∙ sym q;
       plain-plane = λ κs a r r' s s' p q. p ∙ sym q;
       enhanced-plane = λ κs a r r' s s' p q. p ∙ sym q;
+      table-refusal-of = λ κs a r r' s s' p q. p ∙ sym q;
       table-size = λ κs a r r' s s' p q. p ∙ sym q;
       filling-number = λ κs a r r' s s' p q. p ∙ sym q;
       seven-or = λ κs a r r' s s' p q. p ∙ sym q;

@@ -1,14 +1,13 @@
 // The composing process over pictures by a table of mapped samples that is lent, whatever it holds.
 mod parts; // the planes, each by its part of the table
-mod refusal; // the rules
 
 use compose::Composed;
 use parts::enhanced_planes;
 use parts::plain_planes;
 use plan::Plan;
-use refusal::refusal_of;
 use rows::Rows;
 use rules::is_used;
+use table_rules::refusal_of;
 ghost use mathlib.Core.Path.{_≡_};
 ghost use lib.ListN.{length};
 ghost use Rattle.rules.specs.Rules.{given-table};

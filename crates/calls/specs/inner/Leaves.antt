@@ -53,6 +53,7 @@ use Rattle.rules.proofs.refusal_of_pictures.Reads as refusal-of-pictures-promis
 use Rattle.rules.proofs.lengths.is_wrong_length.Reads as is-wrong-length-promise
 use Rattle.planes.proofs.plain_plane.Reads as plain-plane-promise
 use Rattle.planes.proofs.enhanced_plane.Reads as enhanced-plane-promise
+use Rattle.table_rules.proofs.refusal_of.Reads as table-refusal-of-promise
 use Rattle.filling.proofs.table_size.Reads as table-size-promise
 use Rattle.filling.proofs.number.Reads as filling-number-promise
 use Rattle.jobs.proofs.early.seven_or.Reads as seven-or-promise
@@ -119,6 +120,7 @@ pub record LeavesSettled : Type 0 where
   pub is-wrong-length : OneAnswer is-wrong-length-promise.Post
   pub plain-plane : OneContent plain-plane-promise.Post (λ c. now (c .left .1 .1 .1 .1 .1 .0))
   pub enhanced-plane : OneContent enhanced-plane-promise.Post (λ c. now (c .left .1 .1 .1 .1 .1 .1 .1 .1 .0))
+  pub table-refusal-of : OneAnswer table-refusal-of-promise.Post
   pub table-size : OneAnswer table-size-promise.Post
   pub filling-number : OneAnswer filling-number-promise.Post
   pub seven-or : OneAnswer seven-or-promise.Post

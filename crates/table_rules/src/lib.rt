@@ -30,16 +30,13 @@ fn refusal_of_plan(plan: Plan, table: usize, base: usize, enhancement: usize, ou
     if !passes(plan) {
         return 7;
     }
-    if is_wrong_length(plan.header, base, enhancement, output)
-        | is_wrong_table(plan.header, table)
-    {
-        return 9;
-    }
-    13
+    let pictures = is_wrong_length(plan.header, base, enhancement, output);
+    let wrong = pictures | is_wrong_table(plan.header, table);
+    if wrong { 9 } else { 13 }
 }
 
 // The first rule met, in this order; 0 where none is.
-pub(crate) fn refusal_of(
+pub fn refusal_of(
     plan: Plan,
     table: &[u16],
     first: usize,

@@ -1,12 +1,12 @@
--- `table_compose::refusal::refusal_of_plan` meets its contract. Assumes nothing.
+-- `table_rules::refusal_of_plan` meets its contract. Assumes nothing.
 use mathlib.Core.Path.{_≡_, sym, ap, ap₂, _∙_}
 use mathlib.Core.Bool.{true, _||_}
 use borrow.Author.Needs.{needs}
 use borrow.Author.Tests.{not-true, not-false}
 use Rattle.plan.specs.Rule7.{fitting}
 use Rattle.plan.proofs.Facts.{header-facts}
-use Rattle.table_compose.proofs.refusal.refusal_of_plan.Statement.{statement}
-use Rattle.table_compose.proofs.refusal.refusal_of_plan.Tie as tie
+use Rattle.table_rules.proofs.refusal_of_plan.Statement.{statement}
+use Rattle.table_rules.proofs.refusal_of_plan.Tie as tie
 
 abbrev start : tie.Else1 → tie.Start
 start e = search needs

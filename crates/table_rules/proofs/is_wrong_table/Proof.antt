@@ -5,8 +5,8 @@ use native.Mathlib.Omega.{arith}
 use lib.Dec.{eqb}
 use borrow.Author.Needs.{needs}
 use Rattle.plan.proofs.Shifting.{shifted}
-use Rattle.table_compose.proofs.refusal.is_wrong_table.Statement.{statement}
-use Rattle.table_compose.proofs.refusal.is_wrong_table.Tie as tie
+use Rattle.table_rules.proofs.is_wrong_table.Statement.{statement}
+use Rattle.table_rules.proofs.is_wrong_table.Tie as tie
 
 returns : tie.Need-returns
 returns c =

@@ -1,4 +1,4 @@
--- `table_compose::refusal::refusal_of` meets its contract: where the plan has polynomials alone, and where it has not. Assumes nothing.
+-- `table_rules::refusal_of` meets its contract: where the plan has polynomials alone, and where it has not. Assumes nothing.
 use mathlib.Core.Path.{_≡_, sym, _∙_}
 use mathlib.Core.Bool.{true, not, _&&_}
 use Prim.Native.Nat.{ℕ}
@@ -12,9 +12,9 @@ use Rattle.refusals.specs.Refusals.{first-met}
 use Rattle.plan.proofs.Facts.{header-facts, header-passed}
 use Rattle.plan.proofs.Truths.{both}
 use Rattle.rules.specs.Rules.{wrong-length, rows-rules, rules, refusal}
-use Rattle.table_compose.proofs.Refusing.{not-polynomials, wrong-table, others}
-use Rattle.table_compose.proofs.refusal.refusal_of.Statement.{statement}
-use Rattle.table_compose.proofs.refusal.refusal_of.Tie as tie
+use Rattle.table_rules.proofs.Refusing.{not-polynomials, wrong-table, others}
+use Rattle.table_rules.proofs.refusal_of.Statement.{statement}
+use Rattle.table_rules.proofs.refusal_of.Tie as tie
 
 abbrev start : tie.Else1 → tie.Start
 start e = search needs
