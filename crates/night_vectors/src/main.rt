@@ -6,79 +6,43 @@ use jobs::compose_job;
 use jobs::open_picture;
 use plan::Plan;
 use streams::BLOCK_ROOM;
+use streams::guards::guard_samples;
+use streams::guards::marks_kept;
+use streams::guards::next_marks;
+use streams::guards::samples_kept;
+use streams::guards::say_touched;
 use streams::next_block;
 use streams::next_byte;
-use streams::next_long;
 use streams::next_number;
-use streams::next_run;
+use streams::nights::next_choice;
+use streams::nights::next_runs;
+use streams::nights::next_ticket;
+use streams::nights::print_left;
+use streams::nights::print_marks;
+use streams::nights::print_open;
+use streams::nights::run_of;
 use streams::print_refusal;
 use streams::print_run;
 use streams::untouch;
 
-fn say_left(left: usize) {
-    if left == 0 {
-        io::write_all(1, b"complete\n");
-        return;
-    }
-    io::write_all(1, b"left ");
-    io::print_decimal(1, left as u64);
-    io::write_all(1, b"\n");
-}
-
 fn say_answer(answer: Answer) {
     match answer {
-        Answer::Done(left) => say_left(left),
+        Answer::Done(left) => print_left(left),
         Answer::Refused(number) => print_refusal(number),
     }
 }
 
 fn say_opened(opened: Opened) {
     match opened {
-        Opened::Open(ticket) => {
-            io::write_all(1, b"open ");
-            io::print_decimal(1, ticket as u64);
-            io::write_all(1, b"\n");
-        }
+        Opened::Open(ticket) => print_open(ticket),
         Opened::Refused(number) => print_refusal(number),
     }
 }
 
-fn ticket_of(n: usize) -> u32 {
-    (n % 4294967296) as u32
-}
-
-// The block's plan, or the plan of zeros where the choice is 1.
-fn chosen(choice: usize, plan: Plan) -> Plan {
-    if choice == 1 { plan::empty() } else { plan }
-}
-
-fn wide(x: u16) -> usize {
-    x as usize
-}
-
-// Run k of the night: sixteen runs of at most 96 samples stand one after the other, and `lengths` says how long each is.
-fn run_of<'a>(runs: &'a [u16], lengths: &[u16], k: usize) -> &'a [u16] {
-    if lengths.len() <= k {
-        return &runs[..0];
-    }
-    let len = wide(lengths[k]);
-    if 16 <= k {
-        return &runs[..0];
-    }
-    let from = 96 * k;
-    if runs.len() < from {
-        return &runs[..0];
-    }
-    if runs.len() - from < len {
-        return &runs[..0];
-    }
-    &runs[from..from + len]
-}
-
 fn next_job(plan: Plan, runs: &[u16], lengths: &[u16], output: &mut [u16], marks: &mut [u8]) {
-    let job_plan = chosen(next_byte(), plan);
-    let open_ticket = ticket_of(next_long());
-    let ticket = ticket_of(next_long());
+    let job_plan = next_choice(plan);
+    let open_ticket = next_ticket();
+    let ticket = next_ticket();
     let first = next_number().value;
     let count = next_number().value;
     let base = next_byte();
@@ -99,8 +63,8 @@ fn next_job(plan: Plan, runs: &[u16], lengths: &[u16], output: &mut [u16], marks
 // Opens the picture, sends the jobs, and prints what is left.
 fn run_night(plan: Plan, runs: &[u16], lengths: &[u16], output: &mut [u16], marks: &mut [u8]) {
     untouch(output);
-    let ticket = ticket_of(next_long());
-    let opening_plan = chosen(next_byte(), plan);
+    let ticket = next_ticket();
+    let opening_plan = next_choice(plan);
     say_opened(open_picture(opening_plan, ticket, marks));
     let mut left = next_number().value;
     while 0 < left {
@@ -109,81 +73,6 @@ fn run_night(plan: Plan, runs: &[u16], lengths: &[u16], output: &mut [u16], mark
     }
     print_run(output);
     print_marks(marks);
-}
-
-fn print_mark(x: u8) {
-    io::print_decimal(1, x as u64);
-}
-
-fn print_marks(marks: &[u8]) {
-    let mut i: usize = 0;
-    while i < marks.len() {
-        if 0 < i {
-            io::write_all(1, b" ");
-        }
-        print_mark(marks[i]);
-        i += 1;
-    }
-    io::write_all(1, b"\n");
-}
-
-// The guards: 16 places on each side of what is lent, and whatever lies behind it.
-fn guard_samples(room: &mut [u16]) {
-    let mut i: usize = 0;
-    while i < room.len() {
-        room[i] = 55555;
-        i += 1;
-    }
-}
-
-fn guard_marks(room: &mut [u8]) {
-    let mut i: usize = 0;
-    while i < room.len() {
-        room[i] = 170;
-        i += 1;
-    }
-}
-
-// Whether place i is lent, where n places from 16 on are.
-fn is_lent(i: usize, n: usize) -> bool {
-    if i < 16 {
-        return false;
-    }
-    i - 16 < n
-}
-
-fn samples_kept(room: &[u16], n: usize) -> bool {
-    let mut kept = true;
-    let mut i: usize = 0;
-    while i < room.len() {
-        kept = kept & (is_lent(i, n) | (room[i] == 55555));
-        i += 1;
-    }
-    kept
-}
-
-fn marks_kept(room: &[u8], n: usize) -> bool {
-    let mut kept = true;
-    let mut i: usize = 0;
-    while i < room.len() {
-        kept = kept & (is_lent(i, n) | (room[i] == 170));
-        i += 1;
-    }
-    kept
-}
-
-// The marks before the opening, put between the guards; answers how many there are, at most 48.
-fn next_marks(room: &mut [u8]) -> usize {
-    guard_marks(room);
-    let m = next_number().value;
-    if 48 < m {
-        return 0;
-    }
-    if room.len() < 80 {
-        return 0;
-    }
-    io::read_full(0, &mut room[16..16 + m]);
-    m
 }
 
 fn lend_and_run(
@@ -215,30 +104,7 @@ fn lend_and_run(
         &mut marks[16..16 + m],
     );
     if !(samples_kept(room, n) & marks_kept(marks, m)) {
-        io::write_all(1, b"a guard was touched\n");
-    }
-}
-
-// The runs that the jobs of a night refer to.
-fn next_runs(runs: &mut [u16], lengths: &mut [u16]) {
-    let count = next_byte();
-    let mut k: usize = 0;
-    while k < count {
-        next_run_at(k, runs, lengths);
-        k += 1;
-    }
-}
-
-fn next_run_at(k: usize, runs: &mut [u16], lengths: &mut [u16]) {
-    if 16 <= k {
-        return;
-    }
-    if runs.len() < 96 * k + 96 {
-        return;
-    }
-    let len = next_run(&mut runs[96 * k..96 * k + 96]);
-    if k < lengths.len() {
-        lengths[k] = len as u16;
+        say_touched();
     }
 }
 

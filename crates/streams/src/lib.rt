@@ -1,4 +1,6 @@
 // What the vector programs share: numbers, runs and plans from standard input, runs to standard output.
+pub mod guards; // what is lent, between guards that nobody may touch
+pub mod nights; // pictures that are composed by jobs
 pub mod numbering; // the numbers of a plan's places
 mod places; // a plan with one place changed
 
@@ -112,6 +114,15 @@ pub fn untouch(run: &mut [u16])
     let mut i: usize = 0;
     while i < run.len() {
         run[i] = 60000 + (i % 1000) as u16;
+        i += 1;
+    }
+}
+
+// One value everywhere in a run.
+pub fn put_all(run: &mut [u16], value: u16) {
+    let mut i: usize = 0;
+    while i < run.len() {
+        run[i] = value;
         i += 1;
     }
 }

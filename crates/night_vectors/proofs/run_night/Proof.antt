@@ -13,17 +13,11 @@ abbrev μ-loop : tie.MeasureT-loop
 untouch-requires : tie.Need-untouch-requires Inv-loop μ-loop
 untouch-requires c κs = search needs
 
-next-long-requires : tie.Need-next-long-requires Inv-loop μ-loop
-next-long-requires c κs = search needs
+next-ticket-requires : tie.Need-next-ticket-requires Inv-loop μ-loop
+next-ticket-requires c κs = search needs
 
-ticket-of-requires : tie.Need-ticket-of-requires Inv-loop μ-loop
-ticket-of-requires c κs = search needs
-
-next-byte-requires : tie.Need-next-byte-requires Inv-loop μ-loop
-next-byte-requires c κs = search needs
-
-chosen-requires : tie.Need-chosen-requires Inv-loop μ-loop
-chosen-requires c κs = search needs
+next-choice-requires : tie.Need-next-choice-requires Inv-loop μ-loop
+next-choice-requires c κs = search needs
 
 open-picture-requires : tie.Need-open-picture-requires Inv-loop μ-loop
 open-picture-requires c κs = search needs
@@ -71,10 +65,8 @@ run-night-spec =
     Inv-loop
     μ-loop
     untouch-requires
-    next-long-requires
-    ticket-of-requires
-    next-byte-requires
-    chosen-requires
+    next-ticket-requires
+    next-choice-requires
     open-picture-requires
     say-opened-requires
     next-number-requires

@@ -1,8 +1,8 @@
 use borrow.Author.Needs.{needs}
 use Prim.Native.Nat.{_≤_, _-_}
 use lib.ListN.{length}
-use Rattle.night_vectors.proofs.print_marks.Statement.{statement}
-use Rattle.night_vectors.proofs.print_marks.Tie as tie
+use Rattle.streams.proofs.nights.print_marks.Statement.{statement}
+use Rattle.streams.proofs.nights.print_marks.Tie as tie
 
 abbrev Inv-loop : tie.InvT-loop
 Inv-loop marks i₀ t3 t4 i = i ≤ length marks

@@ -3,23 +3,23 @@ use borrow.Author.Needs.{needs}
 use Prim.Native.Nat.{_≤_, _-_}
 use native.Mathlib.Omega.{arith}
 use lib.ListN.{length, length-set}
-use Rattle.night_vectors.proofs.guard_samples.Statement.{statement}
-use Rattle.night_vectors.proofs.guard_samples.Tie as tie
+use Rattle.streams.proofs.put_all.Statement.{statement}
+use Rattle.streams.proofs.put_all.Tie as tie
 
 abbrev Inv-loop : tie.InvT-loop
-Inv-loop room₀ i₀ room i = (i ≤ length room) × (length room ≡ length room₀)
+Inv-loop run₀ value i₀ run i = (i ≤ length run) × (length run ≡ length run₀)
 
 abbrev μ-loop : tie.MeasureT-loop
-μ-loop room₀ i₀ room i = length room - i
+μ-loop run₀ value i₀ run i = length run - i
 
 loop-holds : tie.Need-loop-holds Inv-loop μ-loop
 loop-holds c = (omega arith, refl)
 
-mul-room : tie.Need-mul-room Inv-loop μ-loop
-mul-room c = search needs
+mul-run : tie.Need-mul-run Inv-loop μ-loop
+mul-run c = search needs
 
-slice-write-room : tie.Need-slice-write-room Inv-loop μ-loop
-slice-write-room c = search needs
+slice-write-run : tie.Need-slice-write-run Inv-loop μ-loop
+slice-write-run c = search needs
 
 add-i : tie.Need-add-i Inv-loop μ-loop
 add-i c = search needs
@@ -40,15 +40,15 @@ same-length c =
 returns : tie.Need-returns Inv-loop μ-loop
 returns c = search needs
 
-pub guard-samples-spec : {M : Type 1} → statement M
-guard-samples-spec =
+pub put-all-spec : {M : Type 1} → statement M
+put-all-spec =
     tie.close
     (tie.spec
     Inv-loop
     μ-loop
     loop-holds
-    mul-room
-    slice-write-room
+    mul-run
+    slice-write-run
     add-i
     loop-less
     loop-again

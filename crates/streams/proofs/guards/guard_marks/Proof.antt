@@ -3,8 +3,8 @@ use borrow.Author.Needs.{needs}
 use Prim.Native.Nat.{_≤_, _-_}
 use native.Mathlib.Omega.{arith}
 use lib.ListN.{length, length-set}
-use Rattle.night_vectors.proofs.guard_marks.Statement.{statement}
-use Rattle.night_vectors.proofs.guard_marks.Tie as tie
+use Rattle.streams.proofs.guards.guard_marks.Statement.{statement}
+use Rattle.streams.proofs.guards.guard_marks.Tie as tie
 
 abbrev Inv-loop : tie.InvT-loop
 Inv-loop room₀ i₀ room i = (i ≤ length room) × (length room ≡ length room₀)

@@ -3,8 +3,8 @@ use borrow.Author.Needs.{needs}
 use Prim.Native.Nat.{_≤_, _-_}
 use native.Mathlib.Omega.{arith}
 use lib.ListN.{length}
-use Rattle.night_vectors.proofs.next_runs.Statement.{statement}
-use Rattle.night_vectors.proofs.next_runs.Tie as tie
+use Rattle.streams.proofs.nights.next_runs.Statement.{statement}
+use Rattle.streams.proofs.nights.next_runs.Tie as tie
 
 abbrev Inv-loop : tie.InvT-loop
 Inv-loop runs₀ lengths₀ count k₀ runs lengths k = (k ≤ count) × ((length runs ≡ length runs₀) × (length lengths ≡ length lengths₀))
