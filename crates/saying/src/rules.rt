@@ -8,7 +8,7 @@ use crate::say_number;
 
 fn say_name(number: usize) {
     say_line(
-        b"\nshort\ntrailer\nlength\nheader\nfield\nreserved\nplan\nticket\nrun\nrows\nsample\nroom\n",
+        b"\nshort\ntrailer\nlength\nheader\nfield\nreserved\nplan\nticket\nrun\nrows\nsample\nroom\nmethod\n",
         number,
     );
 }
@@ -27,7 +27,8 @@ fn say_what_to_do(number: usize) {
         hand over whole pictures of this size\n\
         name row pairs of this picture\n\
         the decoder handed over a broken picture\n\
-        lend a slice of the block's length or more\n",
+        lend a slice of the block's length or more\n\
+        compose this plan without a table\n",
         number,
     );
 }
@@ -65,7 +66,7 @@ fn say_rule(number: usize) {
 // All rules, one a line.
 pub fn say_rules() {
     let mut number: usize = 1;
-    while number < 13 {
+    while number < 14 {
         say_rule(number);
         number += 1;
     }

@@ -4,10 +4,10 @@ use Rattle.saying.proofs.rules.say_rules.Statement.{statement}
 use Rattle.saying.proofs.rules.say_rules.Tie as tie
 
 abbrev Inv-loop : tie.InvT-loop
-Inv-loop number₀ number = number ≤ 13
+Inv-loop number₀ number = number ≤ 14
 
 abbrev μ-loop : tie.MeasureT-loop
-μ-loop number₀ number = 13 - number
+μ-loop number₀ number = 14 - number
 
 pub say-rules-spec : {M : Type 1} → statement M
 say-rules-spec =
