@@ -31,11 +31,13 @@ use streams::untouch;
 use table_jobs::TableAnswer;
 use table_jobs::compose_table_job;
 
-// How many samples and marks of a picture are lent. Picture k's begin at 128 k + 16 in the room of samples, and at 80 k + 16 in
-// that of marks.
-struct Size {
-    samples: usize,
-    marks: usize,
+// How much of each room is lent.
+struct Sizes {
+    table: usize,
+    samples_0: usize,
+    marks_0: usize,
+    samples_1: usize,
+    marks_1: usize,
 }
 
 fn say_answer(answer: Answer) {
@@ -115,59 +117,19 @@ fn next_job(
 // A step of one picture: its opening, a plain job or a table job.
 fn next_of_picture(
     kind: usize,
-    plan: Plan,
+    given: Plan,
     runs: &[u16],
     lengths: &[u16],
     table: &[u16],
     output: &mut [u16],
     marks: &mut [u8],
 ) {
+    let plan = next_choice(given);
     if kind == 0 {
         say_opened(open_picture(plan, next_ticket(), marks));
         return;
     }
     next_job(kind == 2, plan, runs, lengths, table, output, marks);
-}
-
-// A step that has a plan: the filling, or one of a picture's.
-fn next_with_plan(
-    kind: usize,
-    given: Plan,
-    runs: &[u16],
-    lengths: &[u16],
-    sizes: [Size; 2],
-    table: &mut [u16],
-    room: &mut [u16],
-    marks: &mut [u8],
-) {
-    if kind == 3 {
-        say_filling(fill_table(next_choice(given), table));
-        return;
-    }
-    let k = next_byte() % 2;
-    let n = sizes[k].samples;
-    let m = sizes[k].marks;
-    if 96 < n {
-        return;
-    }
-    if 48 < m {
-        return;
-    }
-    if room.len() < 256 {
-        return;
-    }
-    if marks.len() < 160 {
-        return;
-    }
-    next_of_picture(
-        kind,
-        next_choice(given),
-        runs,
-        lengths,
-        table,
-        &mut room[128 * k + 16..128 * k + 16 + n],
-        &mut marks[80 * k + 16..80 * k + 16 + m],
-    );
 }
 
 // The table before the first step.
@@ -209,140 +171,142 @@ fn next_step(
     plan: Plan,
     runs: &[u16],
     lengths: &[u16],
-    sizes: [Size; 2],
     table: &mut [u16],
-    room: &mut [u16],
-    marks: &mut [u8],
+    output_0: &mut [u16],
+    marks_0: &mut [u8],
+    output_1: &mut [u16],
+    marks_1: &mut [u8],
 ) -> Plan {
     let kind = next_byte();
-    if kind < 4 {
-        next_with_plan(kind, plan, runs, lengths, sizes, table, room, marks);
-        return plan;
+    if 6 <= kind {
+        io::write_all(1, b"read\n");
+        return next_plan(next_number().value);
     }
-    if kind < 6 {
+    if 4 <= kind {
         next_of_table(kind, table);
         return plan;
     }
-    io::write_all(1, b"read\n");
-    next_plan(next_number().value)
+    if kind == 3 {
+        say_filling(fill_table(next_choice(plan), table));
+        return plan;
+    }
+    if next_byte() == 0 {
+        next_of_picture(kind, plan, runs, lengths, table, output_0, marks_0);
+        return plan;
+    }
+    next_of_picture(kind, plan, runs, lengths, table, output_1, marks_1);
+    plan
+}
+
+fn start(table: &mut [u16], output_0: &mut [u16], output_1: &mut [u16]) {
+    fresh(table);
+    untouch(output_0);
+    untouch(output_1);
 }
 
 fn run_steps(
     given: Plan,
     runs: &[u16],
     lengths: &[u16],
-    sizes: [Size; 2],
     table: &mut [u16],
-    room: &mut [u16],
-    marks: &mut [u8],
+    output_0: &mut [u16],
+    marks_0: &mut [u8],
+    output_1: &mut [u16],
+    marks_1: &mut [u8],
 ) {
-    fresh(table);
+    start(table, output_0, output_1);
     let mut plan = given;
     let mut left = next_number().value;
     while 0 < left {
-        plan = next_step(plan, runs, lengths, sizes, table, room, marks);
+        plan = next_step(
+            plan,
+            runs,
+            lengths,
+            table,
+            output_0,
+            marks_0,
+            output_1,
+            marks_1,
+        );
         left -= 1;
     }
+    print_run(output_0);
+    print_marks(marks_0);
+    print_run(output_1);
+    print_marks(marks_1);
 }
 
-// The steps, with t samples of the table's room lent.
 fn lend_and_run(
     plan: Plan,
     runs: &[u16],
     lengths: &[u16],
-    sizes: [Size; 2],
-    t: usize,
+    sizes: Sizes,
     table: &mut [u16],
-    room: &mut [u16],
-    marks: &mut [u8],
+    room_0: &mut [u16],
+    marks_0: &mut [u8],
+    room_1: &mut [u16],
+    marks_1: &mut [u8],
 ) {
+    let t = sizes.table;
+    let n_0 = sizes.samples_0;
+    let m_0 = sizes.marks_0;
+    let n_1 = sizes.samples_1;
+    let m_1 = sizes.marks_1;
     if 3080 < t {
         return;
     }
     if table.len() < 3112 {
         return;
     }
+    if 96 < n_0 {
+        return;
+    }
+    if 96 < n_1 {
+        return;
+    }
+    if 48 < m_0 {
+        return;
+    }
+    if 48 < m_1 {
+        return;
+    }
+    if room_0.len() < 128 {
+        return;
+    }
+    if room_1.len() < 128 {
+        return;
+    }
+    if marks_0.len() < 80 {
+        return;
+    }
+    if marks_1.len() < 80 {
+        return;
+    }
     run_steps(
         plan,
         runs,
         lengths,
-        sizes,
         &mut table[16..16 + t],
-        room,
-        marks,
+        &mut room_0[16..16 + n_0],
+        &mut marks_0[16..16 + m_0],
+        &mut room_1[16..16 + n_1],
+        &mut marks_1[16..16 + m_1],
     );
-    if !samples_kept(table, t) {
-        say_touched();
-    }
 }
 
-// Picture k before the first step, between its guards.
-fn next_picture(k: usize, room: &mut [u16], marks: &mut [u8]) -> Size {
-    if 1 < k {
-        return Size {
-            samples: 0,
-            marks: 0,
-        };
-    }
-    if marks.len() < 160 {
-        return Size {
-            samples: 0,
-            marks: 0,
-        };
-    }
-    let m = next_marks(&mut marks[80 * k..80 * k + 80]);
-    let n = next_number().value;
-    if 96 < n {
-        return Size {
-            samples: 0,
-            marks: m,
-        };
-    }
-    if room.len() < 256 {
-        return Size {
-            samples: 0,
-            marks: m,
-        };
-    }
-    untouch(&mut room[128 * k + 16..128 * k + 16 + n]);
-    Size {
-        samples: n,
-        marks: m,
-    }
-}
-
-// Picture k after the last step: its half of each room.
-fn print_picture(room: &[u16], marks: &[u8], size: Size) {
-    let n = size.samples;
-    let m = size.marks;
-    if 96 < n {
-        return;
-    }
-    if 48 < m {
-        return;
-    }
-    if room.len() < 128 {
-        return;
-    }
-    if marks.len() < 80 {
-        return;
-    }
-    print_run(&room[16..16 + n]);
-    print_marks(&marks[16..16 + m]);
-    if !(samples_kept(room, n) & marks_kept(marks, m)) {
-        say_touched();
-    }
-}
-
-fn print_pictures(room: &[u16], marks: &[u8], sizes: [Size; 2]) {
-    if room.len() < 256 {
-        return;
-    }
-    if marks.len() < 160 {
-        return;
-    }
-    print_picture(&room[0..128], &marks[0..80], sizes[0]);
-    print_picture(&room[128..256], &marks[80..160], sizes[1]);
+fn all_kept(
+    sizes: Sizes,
+    table: &[u16],
+    room_0: &[u16],
+    marks_0: &[u8],
+    room_1: &[u16],
+    marks_1: &[u8],
+) -> bool {
+    samples_kept(table, sizes.table)
+        & samples_kept(room_0, sizes.samples_0)
+        & marks_kept(marks_0, sizes.marks_0)
+        & samples_kept(room_1, sizes.samples_1)
+        & marks_kept(marks_1, sizes.marks_1)
 }
 
 // One case; false where the input has ended.
@@ -355,26 +319,32 @@ fn next_case() -> bool {
     let mut runs = [0u16; 1536];
     let mut lengths = [0u16; 16];
     next_runs(&mut runs, &mut lengths);
-    let t = next_number().value;
-    let mut table = [0u16; 3112];
-    guard_samples(&mut table);
-    let mut room = [0u16; 256];
-    guard_samples(&mut room);
-    let mut marks = [0u8; 160];
-    let first = next_picture(0, &mut room, &mut marks);
-    let second = next_picture(1, &mut room, &mut marks);
-    let sizes = [first, second];
+    let mut table = [55555u16; 3112];
+    let mut room_0 = [55555u16; 128];
+    let mut room_1 = [55555u16; 128];
+    let mut marks_0 = [0u8; 80];
+    let mut marks_1 = [0u8; 80];
+    let sizes = Sizes {
+        table: next_number().value,
+        marks_0: next_marks(&mut marks_0),
+        samples_0: next_number().value,
+        marks_1: next_marks(&mut marks_1),
+        samples_1: next_number().value,
+    };
     lend_and_run(
         plan,
         &runs,
         &lengths,
         sizes,
-        t,
         &mut table,
-        &mut room,
-        &mut marks,
+        &mut room_0,
+        &mut marks_0,
+        &mut room_1,
+        &mut marks_1,
     );
-    print_pictures(&room, &marks, sizes);
+    if !all_kept(sizes, &table, &room_0, &marks_0, &room_1, &marks_1) {
+        say_touched();
+    }
     true
 }
 
