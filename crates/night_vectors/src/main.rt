@@ -6,7 +6,7 @@ use jobs::compose_job;
 use jobs::open_picture;
 use plan::Plan;
 use streams::BLOCK_ROOM;
-use streams::guards::guard_samples;
+use streams::guards::GUARD;
 use streams::guards::marks_kept;
 use streams::guards::next_marks;
 use streams::guards::samples_kept;
@@ -123,8 +123,7 @@ fn next_night() -> bool {
     let mut marks = [0u8; 80];
     let m = next_marks(&mut marks);
     let n = next_number().value;
-    let mut room = [0u16; 128];
-    guard_samples(&mut room);
+    let mut room = [GUARD; 128];
     lend_and_run(plan, &runs, &lengths, n, m, &mut room, &mut marks);
     true
 }

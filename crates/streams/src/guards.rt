@@ -1,10 +1,8 @@
 // What is lent lies between guards, which nobody may touch: 16 places on each side, and whatever lies behind.
 use crate::next_number;
-use crate::put_all;
 
-pub fn guard_samples(room: &mut [u16]) {
-    put_all(room, 55555);
-}
+// What a room of samples has before a part of it is lent.
+pub const GUARD: u16 = 55555;
 
 fn guard_marks(room: &mut [u8]) {
     let mut i: usize = 0;
@@ -40,7 +38,7 @@ pub fn samples_kept(room: &[u16], n: usize) -> bool {
     let mut kept = true;
     let mut i: usize = 0;
     while i < room.len() {
-        kept = kept & (is_lent(i, n) | (room[i] == 55555));
+        kept = kept & (is_lent(i, n) | (room[i] == GUARD));
         i += 1;
     }
     kept

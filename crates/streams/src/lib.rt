@@ -118,15 +118,6 @@ pub fn untouch(run: &mut [u16])
     }
 }
 
-// One value everywhere in a run.
-pub fn put_all(run: &mut [u16], value: u16) {
-    let mut i: usize = 0;
-    while i < run.len() {
-        run[i] = value;
-        i += 1;
-    }
-}
-
 fn print_sample(x: u16) {
     io::print_decimal(1, x as u64);
 }

@@ -9,7 +9,7 @@ use jobs::compose_job;
 use jobs::open_picture;
 use plan::Plan;
 use streams::BLOCK_ROOM;
-use streams::guards::guard_samples;
+use streams::guards::GUARD;
 use streams::guards::marks_kept;
 use streams::guards::next_marks;
 use streams::guards::samples_kept;
@@ -26,7 +26,6 @@ use streams::nights::print_open;
 use streams::nights::run_of;
 use streams::print_refusal;
 use streams::print_run;
-use streams::put_all;
 use streams::untouch;
 use table_jobs::TableAnswer;
 use table_jobs::compose_table_job;
@@ -141,6 +140,15 @@ fn fresh(table: &mut [u16]) {
     }
 }
 
+// One value everywhere in a part of the table.
+fn damage(part: &mut [u16], value: u16) {
+    let mut i: usize = 0;
+    while i < part.len() {
+        part[i] = value;
+        i += 1;
+    }
+}
+
 // A step of the table alone: a part of it is damaged or shown.
 fn next_of_table(kind: usize, table: &mut [u16]) {
     let from = next_number().value;
@@ -152,7 +160,7 @@ fn next_of_table(kind: usize, table: &mut [u16]) {
         return;
     }
     if kind == 4 {
-        put_all(&mut table[from..to], next_number().value as u16);
+        damage(&mut table[from..to], next_number().value as u16);
         io::write_all(1, b"damaged\n");
         return;
     }
@@ -319,9 +327,9 @@ fn next_case() -> bool {
     let mut runs = [0u16; 1536];
     let mut lengths = [0u16; 16];
     next_runs(&mut runs, &mut lengths);
-    let mut table = [55555u16; 3112];
-    let mut room_0 = [55555u16; 128];
-    let mut room_1 = [55555u16; 128];
+    let mut table = [GUARD; 3112];
+    let mut room_0 = [GUARD; 128];
+    let mut room_1 = [GUARD; 128];
     let mut marks_0 = [0u8; 80];
     let mut marks_1 = [0u8; 80];
     let sizes = Sizes {

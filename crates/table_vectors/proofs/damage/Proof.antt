@@ -3,23 +3,23 @@ use borrow.Author.Needs.{needs}
 use Prim.Native.Nat.{_≤_, _-_}
 use native.Mathlib.Omega.{arith}
 use lib.ListN.{length, length-set}
-use Rattle.streams.proofs.put_all.Statement.{statement}
-use Rattle.streams.proofs.put_all.Tie as tie
+use Rattle.table_vectors.proofs.damage.Statement.{statement}
+use Rattle.table_vectors.proofs.damage.Tie as tie
 
 abbrev Inv-loop : tie.InvT-loop
-Inv-loop run₀ value i₀ run i = (i ≤ length run) × (length run ≡ length run₀)
+Inv-loop part₀ value i₀ part i = (i ≤ length part) × (length part ≡ length part₀)
 
 abbrev μ-loop : tie.MeasureT-loop
-μ-loop run₀ value i₀ run i = length run - i
+μ-loop part₀ value i₀ part i = length part - i
 
 loop-holds : tie.Need-loop-holds Inv-loop μ-loop
 loop-holds c = (omega arith, refl)
 
-mul-run : tie.Need-mul-run Inv-loop μ-loop
-mul-run c = search needs
+mul-part : tie.Need-mul-part Inv-loop μ-loop
+mul-part c = search needs
 
-slice-write-run : tie.Need-slice-write-run Inv-loop μ-loop
-slice-write-run c = search needs
+slice-write-part : tie.Need-slice-write-part Inv-loop μ-loop
+slice-write-part c = search needs
 
 add-i : tie.Need-add-i Inv-loop μ-loop
 add-i c = search needs
@@ -40,15 +40,15 @@ same-length c =
 returns : tie.Need-returns Inv-loop μ-loop
 returns c = search needs
 
-pub put-all-spec : {M : Type 1} → statement M
-put-all-spec =
+pub damage-spec : {M : Type 1} → statement M
+damage-spec =
     tie.close
     (tie.spec
     Inv-loop
     μ-loop
     loop-holds
-    mul-run
-    slice-write-run
+    mul-part
+    slice-write-part
     add-i
     loop-less
     loop-again
