@@ -46,6 +46,12 @@ typedef struct {
                  uint16_t *output, size_t output_len, uint8_t *marks, size_t marks_len)
 PROVED_JOB(speed_job);
 
+/* The proved filling of a table, and the proved row job that is lent one. */
+uint8_t speed_fill(Plan plan, uint16_t *table, size_t table_len);
+uint8_t speed_table_job(Plan plan, const uint16_t *table, size_t table_len, uint32_t open_ticket, uint32_t ticket,
+                        size_t first, size_t count, const uint16_t *base, size_t base_len, const uint16_t *enhancement,
+                        size_t enhancement_len, uint16_t *output, size_t output_len, uint8_t *marks, size_t marks_len);
+
 /* The same job in C: clause.c and tables.c, once a compiler. They have no tickets and no marks, so the proved side does
    a little more. */
 #define JOB(name)                                                                                     \
@@ -55,4 +61,12 @@ JOB(clause_gcc);
 JOB(clause_clang);
 JOB(tables_gcc);
 JOB(tables_clang);
+
+/* And the job that is lent a table: lent.c. */
+#define TABLE_JOB(name)                                                                                    \
+    uint8_t name(const Plan *plan, const uint16_t *lent, size_t lent_len, size_t first, size_t count,      \
+                 const uint16_t *base, size_t base_len, const uint16_t *enhancement, size_t enhancement_len, \
+                 uint16_t *output, size_t output_len)
+TABLE_JOB(lent_gcc);
+TABLE_JOB(lent_clang);
 #endif

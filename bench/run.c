@@ -1,8 +1,9 @@
-/* What `run` runs: the proved code against clause-by-clause C, C with tables, and memcpy, and the proved writer against
-   C. Prints tables in Markdown: nanoseconds a sample or a block, and ratios. Exits 1 where outputs differ. */
+/* What `run` runs: the proved code against clause-by-clause C, C with tables, and memcpy, the proved table job against
+   C that is lent the same table, and the proved writer against C. Prints tables in Markdown: nanoseconds a sample or a block, and ratios. Exits 1 where outputs differ. */
 #include "blocks.h"
 #include "rows.h"
 #include <stdio.h>
+#include <stdlib.h>
 #include <string.h>
 
 enum { RUNS = 9 };
@@ -31,6 +32,28 @@ C_WAY(clause_clang)
 
 enum { COPY, PROVED, TABLES, CLAUSE = TABLES + 2, WAYS = CLAUSE + 2 };
 static Way *const ways[WAYS] = {copy, proved, by_tables_gcc, by_tables_clang, by_clause_gcc, by_clause_clang};
+
+/* one table for all jobs that are lent one */
+static uint16_t lent[3 << 10];
+enum { LENT = sizeof lent / sizeof lent[0] };
+
+static uint8_t proved_lent(const Plan *plan, size_t first, size_t count)
+{
+    return speed_table_job(*plan, lent, LENT, 1, 1, first, count, base, size, enhancement, size, output, size, marks,
+                           pairs);
+}
+
+#define LENT_WAY(name)                                                                             \
+    static uint8_t by_##name(const Plan *plan, size_t first, size_t count)                         \
+    {                                                                                              \
+        return name(plan, lent, LENT, first, count, base, size, enhancement, size, output, size);  \
+    }
+LENT_WAY(lent_gcc)
+LENT_WAY(lent_clang)
+
+/* the plain job is beside them so that its output is compared too */
+enum { PLAIN = PROVED + 1, LENT_C, LENT_WAYS = LENT_C + 2 };
+static Way *const lent_ways[LENT_WAYS] = {copy, proved_lent, proved, by_lent_gcc, by_lent_clang};
 
 /* where chroma has MMR, which the tables do not do */
 enum { MMR_CLAUSE = PROVED + 1, MMR_WAYS = MMR_CLAUSE + 2 };
@@ -65,6 +88,49 @@ static void against_clause(const Plan *plan, size_t step)
     double t[MMR_WAYS];
     medians(mmr_ways, MMR_WAYS, plan, step, t);
     printf("| %.2f | %.2f | %.2f |\n", t[PROVED], better(t + MMR_CLAUSE), t[PROVED] / better(t + MMR_CLAUSE));
+}
+
+static void fill_lent(const Plan *plan)
+{
+    if (speed_fill(*plan, lent, LENT) != 0) {
+        fprintf(stderr, "bench: a filling was refused\n");
+        exit(1);
+    }
+}
+
+/* Rows come job by job, whole pictures first (rows.c): the times of those are kept, and each row is shown against the
+   one of the whole picture that has its samples, pieces and enhancement. */
+static void against_lent_c(const Plan *plan, size_t step)
+{
+    enum { KINDS = 2 * POLYNOMIALS };
+    static double whole[KINDS];
+    static int row;
+    double t[LENT_WAYS];
+    fill_lent(plan);
+    medians(lent_ways, LENT_WAYS, plan, step, t);
+    if (row / KINDS % 3 == 0)
+        whole[row % KINDS] = t[PROVED];
+    printf("| %.2f | %.2f | %.2f | %.2f | %.2f |\n", t[PROVED], better(t + LENT_C), t[PLAIN],
+           t[PROVED] / better(t + LENT_C), t[PROVED] / whole[row % KINDS]);
+    row++;
+}
+
+/* nanoseconds that a filling takes, which jobs of a night share */
+static void filling(void)
+{
+    enum { TURNS = 2000 };
+    printf("\nNanoseconds that filling a table takes, medians of %d runs:\n\n| pieces | proved |\n|---|---|\n", RUNS);
+    for (int k = 0; k < POLYNOMIALS; k++) {
+        Plan plan = plan_of(&polynomials[k], 0);
+        double times[RUNS];
+        for (int r = 0; r < RUNS; r++) {
+            double began = now();
+            for (int turn = 0; turn < TURNS; turn++)
+                fill_lent(&plan);
+            times[r] = (now() - began) / TURNS;
+        }
+        printf("| %s | %.0f |\n", polynomials[k].name, median(times, RUNS));
+    }
 }
 
 /* whether the time a sample grows with the picture: whole pictures, smooth, 8 pieces */
@@ -112,6 +178,11 @@ int main(void)
            RUNS);
     each_row(1920, 1080, polynomials, POLYNOMIALS, against_c);
     by_picture();
+    printf("\nNanoseconds a sample of a job that is lent a table; 3840 x 2160:\n\n"
+           "| samples | jobs | pieces | enhancement | proved, lent | C, lent | proved, plain | proved / C, both lent "
+           "| lent / whole picture |\n|---|---|---|---|---|---|---|---|---|\n");
+    each_row(1920, 1080, polynomials, POLYNOMIALS, against_lent_c);
+    filling();
     printf("\nNanoseconds a sample where Cb and Cr are mapped by MMR and luma by 8 polynomials; 1920 x 1080:\n\n"
            "| samples | jobs | Cb and Cr | enhancement | proved | clause C | proved / clause C |\n"
            "|---|---|---|---|---|---|---|\n");

@@ -1,15 +1,12 @@
 /* The fastest C that was found for the job of clause.c: the second yardstick. What each code of a component comes to is
    worked out once a job and then looked up, as the proved code does. It does no MMR. It trusts the plan (rule 7 is not
    tested here) and tests lengths, row pairs and samples. Tried and slower: clamps in place of the cuts (clang branches
-   on them), sums shifted in one pass and clamped in another, four codes a load, samples joined to one store. */
-#include "job.h"
-#include <string.h>
+   on them), sums shifted in one pass and clamped in another. */
+#include "lookup.h"
 
 #ifndef NAME
 #error "compile with -DNAME=tables_gcc or -DNAME=tables_clang"
 #endif
-
-enum { CODES = 1 << 10, MOST_OUT = 12, CUTS = 3 << MOST_OUT };
 
 /* Into 0 .. most. A table's numbers go out of it and back in few places, so the branch is predicted well. */
 static int64_t cut(int64_t v, int64_t most)
@@ -43,93 +40,16 @@ static void map_codes(const Component *c, int depth, int64_t round, int shift, i
     }
 }
 
-/* 5.4.3.2: the residuals of the codes above the offset (side 1) or below it (side -1), which grow evenly up to a limit.
-   Each is made ready to be added to a mapped sample: raised, and kept to 0 .. 2^17, which changes no result. */
-static void raise_side(const Nlq *q, int el, int shift, int raise, int side, int codes, uint32_t *raised)
-{
-    int64_t even = (int64_t)(q->slope << (11 - el)), dq = even / 2 + (int64_t)(q->threshold << (11 - el));
-    int64_t most = (int64_t)(q->maximum << (11 - el)), room = (int64_t)(side < 0 ? raise : (1 << 17) - raise) << shift;
-    int far = 1;
-    if (most > room)
-        most = room;
-    for (; far <= codes && dq < most; far++, dq += even)
-        raised[side * far] = (uint32_t)((side * dq >> shift) + raise);
-    for (; far <= codes; far++)
-        raised[side * far] = (uint32_t)((side * most >> shift) + raise);
-}
-
-static void raise_codes(const Nlq *q, int el, int d, int out, uint32_t raised[CODES])
-{
-    int raise = (1 << 16) + (1 << (15 - out)), shift = d - 5 - el;
-    raised[q->offset] = (uint32_t)raise;
-    raise_side(q, el, shift, raise, 1, (1 << el) - 1 - q->offset, raised + q->offset);
-    raise_side(q, el, shift, raise, -1, q->offset, raised + q->offset);
-}
-
-/* 5.4.3.3 with residual: the finished sample of each shifted sum. This is faster than two comparisons a sample. */
-static void cut_sums(int out, uint16_t cuts[CUTS])
-{
-    int full = 1 << out;
-    for (int i = 0; i < full; i++) {
-        cuts[i] = 0;
-        cuts[full + i] = (uint16_t)i;
-        cuts[2 * full + i] = (uint16_t)(full - 1);
-    }
-}
-
-static void look_up(const uint16_t *restrict table, size_t from, size_t to, const uint16_t *restrict base,
-                    uint16_t *restrict output)
-{
-    for (size_t i = from; i < to; i++)
-        output[i] = table[base[i]];
-}
-
-/* One load takes two codes. Whichever comes first in memory, each goes back to its own place. */
-static void look_up_sums(const uint16_t *restrict mapped, const uint32_t *restrict raised,
-                         const uint16_t *restrict cuts, int shift, size_t from, size_t to,
-                         const uint16_t *restrict base, const uint16_t *restrict enhancement, uint16_t *restrict output)
-{
-    size_t i = from;
-    for (; i + 4 <= to; i += 4) {
-        uint32_t b[2], e[2];
-        memcpy(b, base + i, sizeof b);
-        memcpy(e, enhancement + i, sizeof e);
-        output[i] = cuts[(mapped[b[0] & 0xffff] + raised[e[0] & 0xffff]) >> shift];
-        output[i + 1] = cuts[(mapped[b[0] >> 16] + raised[e[0] >> 16]) >> shift];
-        output[i + 2] = cuts[(mapped[b[1] & 0xffff] + raised[e[1] & 0xffff]) >> shift];
-        output[i + 3] = cuts[(mapped[b[1] >> 16] + raised[e[1] >> 16]) >> shift];
-    }
-    for (; i < to; i++)
-        output[i] = cuts[(mapped[base[i]] + raised[enhancement[i]]) >> shift];
-}
-
-/* rule 11; the limit is a power of two, so the samples may be joined instead of compared */
-static int some_large(const uint16_t *run, size_t from, size_t to, uint16_t limit)
-{
-    uint16_t all = 0;
-    for (size_t i = from; i < to; i++)
-        all |= run[i];
-    return all >= limit;
-}
-
 JOB(NAME)
 {
     const Header *h = &plan->header;
     int depth = h->bl + 8, out = h->hdr + 8;
-    size_t columns = h->columns, n = columns * h->pairs;
     int enhanced = h->disabled == 0 && enhancement_len > 0;
-    if (base_len != 6 * n || output_len != 6 * n || (enhanced && enhancement_len != 6 * n))
-        return 9;
-    if (count == 0 || first > h->pairs || count > h->pairs - first)
-        return 10;
-    size_t a = columns * first, b = columns * (first + count);
-    const size_t from[3] = {4 * a, 4 * n + a, 5 * n + a};
-    const size_t to[3] = {4 * b, 4 * n + b, 5 * n + b};
+    uint8_t number = refusal(h, first, count, base, base_len, enhancement, enhancement_len, output_len, enhanced);
+    if (number != 0)
+        return number;
+    const Spans s = spans_of(h, first, count);
     const Component *component[3] = {&plan->y, &plan->cb, &plan->cr};
-    uint16_t limit = (uint16_t)(1u << depth);
-    for (int k = 0; k < 3; k++)
-        if (some_large(base, from[k], to[k], limit) || (enhanced && some_large(enhancement, from[k], to[k], limit)))
-            return 11;
     uint16_t table[CODES], cuts[CUTS];
     uint32_t raised[CODES];
     int fine = 4 + h->d, coarse = 16 - out;
@@ -139,11 +59,11 @@ JOB(NAME)
         if (enhanced) {
             map_codes(component[k], depth, 0, fine, 0xffff, table);
             raise_codes(&component[k]->nlq, depth, h->d, out, raised);
-            look_up_sums(table, raised, cuts, coarse, from[k], to[k], base, enhancement, output);
+            look_up_sums(table, raised, cuts, coarse, s.from[k], s.to[k], base, enhancement, output);
         } else {
             /* 5.4.3.3 without residual: both shifts at once, and half of the last place added before them */
             map_codes(component[k], depth, (int64_t)1 << (fine + coarse - 1), fine + coarse, (1 << out) - 1, table);
-            look_up(table, from[k], to[k], base, output);
+            look_up(table, s.from[k], s.to[k], base, output);
         }
     return 0;
 }
