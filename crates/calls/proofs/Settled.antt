@@ -105,6 +105,7 @@ leaves-settled =
       is-used = λ κs a r r' s s' p q. p ∙ sym q;
       joined = λ κs a r r' s s' p q. p ∙ sym q;
       four = λ κs a r r' s s' p q. p .0 ∙ sym (q .0);
+      four-put = λ κs a r r' s s' p q. p ∙ sym q;
       looked-up-output = λ κs a r r' s s' p q. p ∙ sym (q);
       added-up-output = λ κs a r r' s s' p q. p ∙ sym (q);
       cut-out = λ κs a r r' s s' p q. p ∙ sym q;

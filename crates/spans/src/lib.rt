@@ -1,11 +1,11 @@
 // Loops over a whole slice: samples looked up in a table, and the bits of a run joined. A table has a place for every index that
 // a loop can ask for, so that nothing is asked of the samples.
 ghost use mathlib.Core.Path.{_≡_};
-ghost use Prim.Native.Nat.{_<_, _≤_, min};
+ghost use Prim.Native.Nat.{_+_, _<_, _≤_, min};
 ghost use lib.ListN.{length};
-ghost use Rattle.runs.specs.Runs.{painted};
+ghost use Rattle.runs.specs.Runs.{painted, between};
 ghost use Rattle.runs.specs.inner.Loops.{below, joined};
-ghost use Rattle.spans.specs.inner.Spans.{looked-up, four, Given};
+ghost use Rattle.spans.specs.inner.Spans.{entry, looked-up, four, put-four, Given, Joins};
 
 // The lesser of two lengths.
 pub fn least(a: usize, b: usize) -> usize
@@ -36,26 +36,64 @@ pub fn four(part: &[u16]) -> u64
         + ((part[3] as u64) << 48)
 }
 
-// Writes what the table has for each sample, four samples a turn: a loop of one sample waits for its own counting. Four are
-// loaded at once, and the remainder, which makes any sample an index, takes each out of the number.
+// Stores a number as four samples, the lowest first: the compiler makes one store of them. Where there are no four places,
+// nothing: a caller that lends four pays for no test.
+pub fn put_four(x: u64, part: &mut [u16])
+    ensures { λ _. ⌜ now (part .exit) ≡ put-four x (now (part .entry)) ⌝ }
+{
+    if part.len() < 4 {
+        return;
+    }
+    part[0] = (x % 65536) as u16;
+    part[1] = ((x >> 16) % 65536) as u16;
+    part[2] = ((x >> 32) % 65536) as u16;
+    part[3] = ((x >> 48) % 65536) as u16;
+}
+
+// What the table has for the sample that is the lowest bits of a number: the remainder makes any sample an index.
+fn entry_of(table: &[u16; 1024], w: u64) -> u16
+    ensures { λ r. ⌜ r ≡ entry (now (table .entry)) w ⌝ }
+{
+    table[(w % 1024) as usize]
+}
+
+// What the table has for four samples, as one number.
+fn looked_up_four(table: &[u16; 1024], base: &[u16], i: usize) -> u64
+    requires { ⌜ i + 4 ≤ length (now base) ⌝ }
+    ensures { λ r. ⌜ Joins (looked-up (now (table .entry)) (now (base .entry))) i r ⌝ }
+{
+    let w = four(&base[i..i + 4]);
+    let a = entry_of(table, w);
+    let b = entry_of(table, w >> 16);
+    let c = entry_of(table, w >> 32);
+    let d = entry_of(table, w >> 48);
+    (((a as u64) + ((b as u64) << 16)) + ((c as u64) << 32)) + ((d as u64) << 48)
+}
+
+// Eight samples, stored after all their loads.
+fn look_up_eight(table: &[u16; 1024], base: &[u16], i: usize, output: &mut [u16])
+    requires { ⌜ (i + 8 ≤ length (now base)) × (i + 8 ≤ length (now output)) ⌝ }
+    ensures { λ _. ⌜ now (output .exit) ≡ painted (between i (i + 8)) (looked-up (now (table .entry)) (now (base .entry))) (now (output .entry)) ⌝ }
+{
+    let j = i + 4;
+    let x = looked_up_four(table, base, i);
+    let y = looked_up_four(table, base, j);
+    put_four(x, &mut output[i..j]);
+    put_four(y, &mut output[j..j + 4]);
+}
+
+// Writes what the table has for each sample, eight samples a turn: a loop of one sample waits for its own counting.
 pub fn look_up(table: &[u16; 1024], base: &[u16], output: &mut [u16])
     ensures { λ _. ⌜ now (output .exit) ≡ painted (below (length (now (base .entry)))) (looked-up (now (table .entry)) (now (base .entry))) (now (output .entry)) ⌝ }
 {
     let n = least(base.len(), output.len());
-    let mut i = 0;
-    while 4 <= n - i {
-        let j = i + 4;
-        let w = four(&base[i..j]);
-        let a = table[(w % 1024) as usize];
-        let b = table[((w >> 16) % 1024) as usize];
-        let c = table[((w >> 32) % 1024) as usize];
-        let d = table[((w >> 48) % 1024) as usize];
-        output[i] = a;
-        output[i + 1] = b;
-        output[i + 2] = c;
-        output[i + 3] = d;
-        i = j;
+    let turns = n / 8;
+    let mut t = 0;
+    while t < turns {
+        look_up_eight(table, base, 8 * t, output);
+        t += 1;
     }
+    let mut i = 8 * turns;
     while i < n {
         output[i] = looked_up(table, base, i);
         i += 1;

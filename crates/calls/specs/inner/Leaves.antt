@@ -6,6 +6,7 @@ use Rattle.rules.proofs.extent_of.Reads as extent-of-promise
 use Rattle.rules.proofs.is_used.Reads as is-used-promise
 use Rattle.spans.proofs.joined.Reads as joined-promise
 use Rattle.spans.proofs.four.Reads as four-promise
+use Rattle.spans.proofs.put_four.Reads as put-four-promise
 use Rattle.spans.proofs.look_up.Reads as look-up-promise
 use Rattle.sums.proofs.add_up.Reads as add-up-promise
 use Rattle.sums.proofs.cut_out.Reads as cut-out-promise
@@ -70,6 +71,7 @@ pub record LeavesSettled : Type 0 where
   pub is-used : OneAnswer is-used-promise.Post
   pub joined : OneAnswer joined-promise.Post
   pub four : OneAnswer four-promise.Post
+  pub four-put : OneContent put-four-promise.Post (λ c. now (c .left .1 .0))
   pub looked-up-output : OneContent look-up-promise.Post (λ c. now (c .left .1 .1 .0))
   pub added-up-output : OneContent add-up-promise.Post (λ c. now (c .left .1 .1 .1 .1 .1 .0))
   pub cut-out : OneAnswer cut-out-promise.Post

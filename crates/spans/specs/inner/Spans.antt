@@ -2,10 +2,11 @@
 use mathlib.Core.Path.{_≡_}
 use mathlib.Core.Bool.{cond}
 use mathlib.Core.List.{List}
-use Prim.Native.Nat.{ℕ, _+_, _*_, _/_, _%_, _^_}
+use Prim.Native.Nat.{ℕ, _+_, _*_, _/_, _%_, _^_, _<_}
 use lib.Dec.{ltb}
 use lib.ListN.{length}
-use Rattle.runs.specs.inner.Loops.{at}
+use Rattle.runs.specs.Runs.{painted}
+use Rattle.runs.specs.inner.Loops.{at, below}
 
 -- what a table of 1024 places has for a sample
 abbrev pub entry : List ℕ → ℕ → ℕ
@@ -25,3 +26,15 @@ pub record Given (run : List ℕ) (i w : ℕ) : Type 0 where
   pub second : w / 2 ^ 16 % 1024 ≡ at run (i + 1) % 1024
   pub third : w / 2 ^ 32 % 1024 ≡ at run (i + 2) % 1024
   pub fourth : w / 2 ^ 48 % 1024 ≡ at run (i + 3) % 1024
+
+-- the samples that are joined in a number, the lowest first
+unfoldable pub sample-of : ℕ → ℕ → ℕ
+sample-of x k = x / 2 ^ (16 * k) % 65536
+
+-- a number that joins four samples of a sequence, from i on
+abbrev pub Joins : (ℕ → ℕ) → ℕ → ℕ → Type 0
+Joins f i x = (k : ℕ) → k < 4 → sample-of x k ≡ f (i + k)
+
+-- a run after four samples were stored at its start; as it was where it has no four
+unfoldable pub put-four : ℕ → List ℕ → List ℕ
+put-four x run = cond (ltb (length run) 4) run (painted (below 4) (sample-of x) run)
