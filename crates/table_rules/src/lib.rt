@@ -7,13 +7,13 @@ use rule_seven::passes;
 use rules::lengths::is_wrong_length;
 use rules::refusal_of_pictures;
 ghost use mathlib.Core.Path.{_≡_};
-ghost use mathlib.Core.Bool.{cond, not, _||_};
+ghost use mathlib.Core.Bool.{cond, not};
 ghost use lib.Dec.{eqb};
 ghost use lib.ListN.{length};
 ghost use Rattle.plan.specs.Rule7.{fitting};
-ghost use Rattle.plan.specs.Tables.{table-size};
+ghost use Rattle.plan.specs.Tables.{table-size, has-mmr};
 ghost use Rattle.plan.specs.inner.Facts.{HeaderFacts};
-ghost use Rattle.rules.specs.Rules.{given-table, wrong-length, refusal};
+ghost use Rattle.rules.specs.Rules.{given-table, refusal};
 
 // Rule 9 on the table's length.
 fn is_wrong_table(h: Header, table: usize) -> bool
@@ -23,19 +23,18 @@ fn is_wrong_table(h: Header, table: usize) -> bool
     table != (3usize << ((h.bl as u32) + 8))
 }
 
-// A plan that meets rule 7, or has an MMR piece: 7, 9 or 13.
-fn refusal_of_plan(plan: Plan, table: usize, base: usize, enhancement: usize, output: usize) -> u8
-    ensures { λ r. ⌜ r ≡ cond (fitting plan) (cond (wrong-length (plan .header) base enhancement output || not (eqb table (table-size (plan .header)))) 9 13) 7 ⌝ }
+// Whether a table can be lent with a plan: 0 where it meets rule 7, 1 where it has polynomials alone, 2 where it has MMR too.
+fn method_of(plan: Plan) -> u8
+    ensures { λ r. ⌜ r ≡ cond (fitting plan) (cond (has-mmr plan) 2 1) 0 ⌝ }
 {
-    if !passes(plan) {
-        return 7;
+    if all_polynomials(plan) {
+        return 1;
     }
-    let pictures = is_wrong_length(plan.header, base, enhancement, output);
-    let wrong = pictures | is_wrong_table(plan.header, table);
-    if wrong { 9 } else { 13 }
+    if passes(plan) { 2 } else { 0 }
 }
 
-// The first rule met, in this order; 0 where none is.
+// The first rule met, in this order; 0 where none is. The plan is asked once and not read again: handed to one call more it
+// would be copied once more.
 pub fn refusal_of(
     plan: Plan,
     table: &[u16],
@@ -47,11 +46,18 @@ pub fn refusal_of(
 ) -> u8
     ensures { λ r. ⌜ r ≡ refusal (given-table plan (now (table .entry)) first count (now (base .entry)) (now (enhancement .entry))) output ⌝ }
 {
-    if !all_polynomials(plan) {
-        return refusal_of_plan(plan, table.len(), base.len(), enhancement.len(), output);
+    let method = method_of(plan);
+    if method == 0 {
+        return 7;
     }
-    if is_wrong_table(plan.header, table.len()) {
+    let h = plan.header;
+    let pictures = is_wrong_length(h, base.len(), enhancement.len(), output);
+    let wrong = pictures | is_wrong_table(h, table.len());
+    if wrong {
         return 9;
     }
-    refusal_of_pictures(plan.header, first, count, base, enhancement, output)
+    if method == 2 {
+        return 13;
+    }
+    refusal_of_pictures(h, first, count, base, enhancement, output)
 }
