@@ -1,6 +1,6 @@
 -- Both job calls give the same where the table is the plan's. Assumes nothing.
-use mathlib.Core.Path.{_≡_, refl, sym, ap, ap₂, subst, _∙_}
-use mathlib.Core.Bool.{Bool, true, false, true≢false, cond}
+use mathlib.Core.Path.{_≡_, refl, sym, ap, ap₂, _∙_}
+use mathlib.Core.Bool.{true, false, true≢false, cond}
 use mathlib.Core.List.{List, []}
 use Prim.Native.Nat.{ℕ, zero, suc}
 use lib.Dec.{eqb}
@@ -14,8 +14,8 @@ use Rattle.filling.specs.Filling.{filling-refusal, filled, table-after, filling
 use Rattle.filling.proofs.Meaning.{Accepted, accepted}
 use Rattle.jobs.specs.Jobs.{Job, job, lend, job-answer, output-after, marks-after}
 use Rattle.table_jobs.proofs.Same.{same-output, same-marks, same-answer}
-use Rattle.calls.specs.Calls.{Memory, memory, FillCall, filling-plan, table-filled, filling-said, JobCall, done, TableCall, table-done}
-use Rattle.calls.specs.Alike.{Alike, BothCallsAlike}
+use Rattle.calls.specs.Calls.{Memory, memory, filling-plan, done, table-done}
+use Rattle.calls.specs.Alike.{BothCallsAlike}
 
 -- a filling that is not refused was accepted, and left the plan's table
 was-filled : (p : Plan) (t : List ℕ) → filling-answer p (length t) .refused ≡ false → Accepted p (length t) × (table-after p t ≡ filled p)

@@ -1,6 +1,6 @@
 -- The calls of a night leave what the jobs of the theorem leave. Assumes nothing.
 use mathlib.Core.Path.{_≡_, refl, sym, ap, ap₂, subst, _∙_}
-use mathlib.Core.Bool.{Bool, true, false, true≢false}
+use mathlib.Core.Bool.{true, false, true≢false}
 use mathlib.Core.List.{List, [], _∷_}
 use Prim.Native.Nat.{ℕ, zero, suc}
 use lib.Dec.{eqb}
@@ -8,7 +8,7 @@ use lib.ListN.{length}
 use Rattle.refusals.specs.Refusals.{Outcome, granted, outcome}
 use Rattle.plan.specs.declared.Plan.{Plan}
 use Rattle.jobs.specs.Jobs.{Job, job-answer, opening-accepted, opening-answer, opening-refusal}
-use Rattle.calls.specs.Calls.{Memory, memory, OpenCall, opening-plan, opening-ticket, marks-before, marks-opened, opening-said}
+use Rattle.calls.specs.Calls.{Memory, memory, opening-plan, opening-ticket, marks-before, marks-opened}
 use Rattle.calls.specs.Calls.{AnyJobCall, plain, lent, any-done}
 use Rattle.night.specs.Night.{step, run, opened, Leaves, Calls, none, more, answers, AnyChainOfCalls}
 use Rattle.night.proofs.Night.{standby-night}

@@ -3,13 +3,12 @@ use mathlib.Core.Path.{_≡_, refl, sym, ap, ap₂, _∙_}
 use mathlib.Core.Bool.{Bool, true, false, not, _&&_, _||_, cond, or-assoc, or-false, true≢false}
 use mathlib.Core.List.{List, [], _∷_, _++_}
 use Prim.Native.Nat.{ℕ, _<_}
-use native.Mathlib.Omega.{arith}
 use lib.Dec.{eqb}
 use lib.ListN.{length, getD}
 use borrow.Author.Tests.{eqb-true}
 use Rattle.runs.specs.Runs.{painted, tally}
 use Rattle.runs.proofs.Painting.{length-painted, at-painted, painted-over, painted-none, painted-cong}
-use Rattle.refusals.specs.Refusals.{rule, first-met, Outcome, granted, outcome}
+use Rattle.refusals.specs.Refusals.{rule, Outcome, granted}
 use Rattle.refusals.proofs.Laws.{none-met, not-off, outcome-granted}
 use Rattle.picture.specs.Picture.{pair-at}
 use Rattle.plan.specs.declared.Plan.{Plan}

@@ -1,8 +1,7 @@
 -- Jobs of two pictures in turn: each picture has what its own jobs leave. Assumes nothing.
-use mathlib.Core.Path.{_≡_, refl, sym, ap, _∙_}
+use mathlib.Core.Path.{_≡_, refl}
 use mathlib.Core.List.{List, [], _∷_}
 use Prim.Native.Nat.{ℕ}
-use lib.ListN.{length}
 use Rattle.plan.specs.declared.Plan.{Plan}
 use Rattle.filling.specs.Filling.{filled}
 use Rattle.jobs.specs.Jobs.{Job}

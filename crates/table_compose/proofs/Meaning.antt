@@ -1,12 +1,12 @@
 -- The planes by their parts of a lent table are the picture that composing by the table means. Assumes nothing.
 use mathlib.Core.Path.{_≡_, refl, sym, ap, ap₂, _∙_}
-use mathlib.Core.Bool.{Bool, true, false, _&&_, cond}
+use mathlib.Core.Bool.{Bool, true, false, _&&_}
 use mathlib.Core.List.{List, [], _∷_}
-use Prim.Native.Nat.{ℕ, zero, suc, _+_, _-_, _*_, _/_, _%_, _^_, _<_, _≤_}
+use Prim.Native.Nat.{ℕ, zero, suc, _+_, _-_, _*_, _/_, _%_, _^_, _≤_}
 use native.Mathlib.Nat.{mod-eq-of-lt, lt-of-lt-of-le}
 use native.Mathlib.Omega.{arith}
-use lib.IntN.{ℤ, pos}
-use lib.ListN.{length, getD, set, replicate, List·getD-eq-default}
+use lib.IntN.{pos}
+use lib.ListN.{length, set, replicate, List·getD-eq-default}
 use lib.Pow.{pow-mono}
 use Rattle.runs.specs.Runs.{painted, between}
 use Rattle.runs.specs.inner.Loops.{at}
@@ -29,14 +29,13 @@ use Rattle.plan.specs.declared.Plan.{Plan}
 use Rattle.plan.specs.Parameters.{quantization}
 use Rattle.plan.specs.Ranges.{bl-depth, el-depth, hdr-depth, header-fits}
 use Rattle.plan.specs.Rule7.{nlq-fits}
-use Rattle.plan.specs.Tables.{table-size}
 use Rattle.plan.proofs.Facts.{header-kept}
 use Rattle.residual.specs.inner.Tables.{residual-table, finished-table, cut-numbers}
 use Rattle.sums.specs.declared.Cut.{Cut}
 use Rattle.rules.specs.Rules.{by-table, extent, used}
 use Rattle.rows.specs.declared.Rows.{Rows}
 use Rattle.rows.specs.inner.Rows.{RowsIn, looked-up-rows, added-up-rows}
-use Rattle.compose.specs.Composing.{component-at, looked-up-at, residual-at, composed-by}
+use Rattle.compose.specs.Composing.{looked-up-at, residual-at, composed-by}
 use Rattle.compose.proofs.Samples.{CodesIn, CodesInPicture, plain-at, enhanced-at}
 use Rattle.compose.proofs.Meaning.{of-plane-both}
 use Rattle.compose.proofs.Planes.{Has, in-luma, in-cb, in-cr}

@@ -5,7 +5,6 @@ use mathlib.Core.Bool.{Bool, true, false, not, cond}
 use mathlib.Core.List.{List, [], _∷_, _++_}
 use mathlib.Core.Logic.{⊎-elim}
 use Prim.Native.Nat.{ℕ, _+_, _-_, _*_, _^_, _<_, _≤_}
-use native.Mathlib.Nat.{zero-add}
 use native.Mathlib.Omega.{arith}
 use lib.Dec.{eqb}
 use lib.ListN.{length, getD, List·getD-eq-default}
@@ -14,27 +13,26 @@ use borrow.Author.Tests.{eqb-true, eq-eqb}
 use Rattle.runs.specs.Runs.{painted}
 use Rattle.runs.proofs.Between.{lt-or-ge}
 use Rattle.runs.proofs.Painting.{painted-cong}
-use Rattle.refusals.specs.Refusals.{rule, first-met}
+use Rattle.refusals.specs.Refusals.{rule}
 use Rattle.refusals.proofs.Laws.{not-first}
 use Rattle.standard.specs.Mapping.{mapped}
 use Rattle.standard.specs.Residual.{reconstructed}
-use Rattle.picture.specs.Picture.{luma-size, chroma-size, of-plane, pair-at}
+use Rattle.picture.specs.Picture.{of-plane, pair-at}
 use Rattle.picture.proofs.Three.{of-plane-ap}
 use Rattle.plan.specs.declared.Component.{Component}
 use Rattle.plan.specs.declared.Plan.{Plan}
 use Rattle.plan.specs.Parameters.{mapping}
 use Rattle.plan.specs.Ranges.{bl-depth, hdr-depth}
 use Rattle.plan.specs.Rule7.{fitting}
-use Rattle.plan.specs.Tables.{table-size, has-mmr}
-use Rattle.mapping.specs.inner.Mapped.{can-map}
+use Rattle.plan.specs.Tables.{has-mmr}
 use Rattle.rules.specs.Rules.{Source, by-plan, by-table, Given, extent, names, wrong-length, rows-rules, source-rules, rules, refusal}
 use Rattle.rules.proofs.Accepting.{SourceFits, Accepted, accepted}
-use Rattle.compose.specs.Composing.{chroma-at, mapped-at, residual-at, looked-up-at, composed-by, composed-at}
+use Rattle.compose.specs.Composing.{mapped-at, residual-at, looked-up-at, composed-by, composed-at}
 use Rattle.compose.proofs.Meaning.{chroma-alone}
 use Rattle.filling.specs.Filling.{part-component, table-entry, filled}
-use Rattle.filling.proofs.Meaning.{entry-at, length-filled, at-filled, y-maps, cb-maps, cr-maps}
+use Rattle.filling.proofs.Meaning.{entry-at, length-filled, at-filled, cb-maps, cr-maps}
 use Rattle.jobs.specs.Jobs as jobs
-use Rattle.jobs.specs.Jobs.{Job, before-pictures, job-refusal}
+use Rattle.jobs.specs.Jobs.{Job, job-refusal}
 
 -- ---- a sample
 module _ (p : Plan) (fits : fitting p ≡ true) (polynomials : has-mmr p ≡ false) (base : List ℕ) (i : ℕ) (code : getD base i 0 < 2 ^ bl-depth (p .header)) where

@@ -1,10 +1,9 @@
 -- `filling::fill_part` meets its contract: the samples so far are painted. Assumes nothing.
-use mathlib.Core.Path.{_≡_, refl, sym, ap, _∙_}
-use Prim.Native.Nat.{ℕ, _+_, _-_, _≤_}
+use mathlib.Core.Path.{refl}
+use Prim.Native.Nat.{_-_, _≤_}
 use native.Mathlib.Omega.{arith}
-use lib.ListN.{length}
 use borrow.Author.Needs.{needs}
-use Rattle.runs.specs.Runs.{painted, between}
+use Rattle.runs.specs.Runs.{painted}
 use Rattle.runs.specs.inner.Loops.{at}
 use Rattle.runs.proofs.Painting.{PaintedFrom, paint-none, paint-more, paint-part}
 use Rattle.filling.proofs.fill_part.Statement.{statement}

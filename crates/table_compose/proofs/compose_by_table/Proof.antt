@@ -1,6 +1,6 @@
 -- `table_compose::compose_by_table` meets its contract: a refusal writes nothing, and acceptance gives what the planes mean. Assumes nothing.
 use mathlib.Core.Path.{_≡_, sym, _∙_}
-use mathlib.Core.Bool.{true, false}
+use mathlib.Core.Bool.{true}
 use lib.ListN.{length}
 use native.Mathlib.Omega.{arith}
 use borrow.Author.Needs.{needs}

@@ -1,6 +1,5 @@
 -- `table_jobs::compose_table_job` meets its contract: it goes as composing by the table does. Assumes nothing.
 use mathlib.Core.Path.{_≡_, sym, ap, _∙_}
-use Prim.Native.Nat.{_+_, _≤_}
 use native.Mathlib.Omega.{arith}
 use lib.ListN.{length}
 use borrow.Author.Needs.{needs}

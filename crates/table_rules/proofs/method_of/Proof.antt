@@ -1,5 +1,5 @@
 -- `table_rules::method_of` meets its contract. Assumes nothing.
-use mathlib.Core.Path.{_≡_, sym, _∙_}
+use mathlib.Core.Path.{sym, _∙_}
 use borrow.Author.Needs.{needs}
 use Rattle.plan.specs.Rule7.{fitting}
 use Rattle.plan.specs.Tables.{has-mmr}

@@ -1,8 +1,7 @@
 -- `table_compose::parts::table_of` meets its contract: the samples so far are copied. Assumes nothing.
-use mathlib.Core.Path.{_≡_, refl}
+use mathlib.Core.Path.{refl}
 use Prim.Native.Nat.{ℕ, _-_, _≤_}
 use native.Mathlib.Omega.{arith}
-use lib.ListN.{length, getD, getD-replicate}
 use borrow.Author.Needs.{needs}
 use Rattle.runs.specs.inner.Loops.{at}
 use Rattle.runs.proofs.Tables.{Filled, fill-none, fill-more, fill-all}
