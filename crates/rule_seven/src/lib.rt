@@ -52,8 +52,7 @@ pub fn is_usable(k: usize, h: Header, c: Component) -> bool
     pivots & (fit & residual)
 }
 
-// Rule 7: whether a plan that is handed in keeps every range and has 0 in every unused place. A component goes straight
-// from the plan to its test: one that is named on the way is copied twice.
+// Rule 7: whether a plan that is handed in keeps every range and has 0 in every unused place.
 pub fn passes(plan: Plan) -> bool
     ensures { λ r. ⌜ r ≡ fitting plan ⌝ }
 {
@@ -65,8 +64,14 @@ pub fn passes(plan: Plan) -> bool
 pub fn all_polynomials(plan: Plan) -> bool
     ensures { λ r. ⌜ r ≡ (fitting plan && not (has-mmr plan)) ⌝ }
 {
-    is_usable(0, plan.header, plan.y)
-        & (is_usable(0, plan.header, plan.cb) & is_usable(0, plan.header, plan.cr))
+    let h = plan.header;
+    let y = plan.y;
+    let luma = is_usable(0, h, y);
+    let cb = plan.cb;
+    let blue = is_usable(0, h, cb);
+    let cr = plan.cr;
+    let red = is_usable(0, h, cr);
+    luma & (blue & red)
 }
 
 // The same of its inverse quantization, which asks nothing of the pieces.

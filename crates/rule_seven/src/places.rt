@@ -11,10 +11,21 @@ use plan::methods::most_order;
 ghost use mathlib.Core.Path.{_≡_};
 ghost use mathlib.Core.Bool.{cond};
 ghost use lib.Dec.{eqb, ltb};
+ghost use Prim.Native.Nat.{_+_, _-_};
+ghost use lib.IntN.{pos};
 ghost use lib.ListN.{getD};
 ghost use Rattle.plan.specs.Ranges.{pivot-fits, coefficient-fits};
-ghost use Rattle.plan.specs.Rule7.{every, pivot-places, is-zero, row-fits, piece-fits, piece-empty};
+ghost use Rattle.plan.specs.Rule7.{every, pivot-places, row-places, is-zero, row-fits, piece-fits, piece-empty};
 ghost use Rattle.plan.specs.inner.Facts.{HeaderFacts};
+
+// The most coefficients of a polynomial.
+const POLYNOMIAL: usize = 3;
+
+fn is_zero(z: i64) -> bool
+    ensures { λ r. ⌜ r ≡ is-zero z ⌝ }
+{
+    z == 0
+}
 
 fn coefficient_place(h: Header, idc: u8, used: bool, z: i64) -> bool
     requires { ⌜ HeaderFacts h ⌝ }
@@ -23,12 +34,12 @@ fn coefficient_place(h: Header, idc: u8, used: bool, z: i64) -> bool
     if used {
         coefficient_fits(h, idc, z)
     } else {
-        z == 0
+        is_zero(z)
     }
 }
 
-// A row of which the first `used` places are used.
-fn row_fits(h: Header, idc: u8, used: usize, row: [i64; ROW]) -> bool
+// Place by place, whatever is used.
+fn places_fit(h: Header, idc: u8, used: usize, row: [i64; ROW]) -> bool
     requires { ⌜ HeaderFacts h ⌝ }
     ensures { λ r. ⌜ r ≡ row-fits h idc used row ⌝ }
 {
@@ -39,6 +50,33 @@ fn row_fits(h: Header, idc: u8, used: usize, row: [i64; ROW]) -> bool
         i += 1;
     }
     fit
+}
+
+// Nothing stands in the places that no polynomial has: there is no choice to make of each, so that the compiler joins them.
+fn rest_is_zero(row: [i64; ROW]) -> bool
+    ensures { λ r. ⌜ r ≡ every (row-places - 3) (λ j. is-zero (getD row (3 + j) (pos 0))) ⌝ }
+{
+    let mut zero = true;
+    let mut j: usize = 0;
+    while j < ROW - POLYNOMIAL {
+        zero = zero & is_zero(row[POLYNOMIAL + j]);
+        j += 1;
+    }
+    zero
+}
+
+// A row of which the first `used` places are used. Most have a polynomial's few coefficients, or none.
+fn row_fits(h: Header, idc: u8, used: usize, row: [i64; ROW]) -> bool
+    requires { ⌜ HeaderFacts h ⌝ }
+    ensures { λ r. ⌜ r ≡ row-fits h idc used row ⌝ }
+{
+    if POLYNOMIAL < used {
+        return places_fit(h, idc, used, row);
+    }
+    let first = coefficient_place(h, idc, 0 < used, row[0]);
+    let second = coefficient_place(h, idc, 1 < used, row[1]);
+    let third = coefficient_place(h, idc, 2 < used, row[2]);
+    first & (second & (third & rest_is_zero(row)))
 }
 
 // A piece of component k: 0 is luma, 1 Cb and 2 Cr.

@@ -1,43 +1,72 @@
--- `rule_seven::places::row_fits` meets its contract: the tests so far are joined. Assumes nothing.
-use mathlib.Core.Path.{_≡_, ap, _∙_}
-use mathlib.Core.Bool.{cond}
-use Prim.Native.Nat.{_≤_, _-_}
+-- `rule_seven::places::row_fits` meets its contract: past a polynomial's few places a row is tested for 0 alone. Assumes nothing.
+use mathlib.Core.Path.{_≡_, refl, ap, ap₂, _∙_}
+use mathlib.Core.Bool.{Bool, true, false, _&&_, cond}
+use Prim.Native.Nat.{ℕ, zero, suc, _+_, _-_, _≤_}
+use native.Mathlib.Omega.{arith}
 use lib.Dec.{ltb}
 use lib.IntN.{pos}
 use lib.ListN.{getD}
-use native.Mathlib.Omega.{arith}
 use borrow.Author.Needs.{needs}
+use borrow.Author.Tests.{le-ltb}
 use Rattle.plan.specs.Ranges.{coefficient-fits}
 use Rattle.plan.specs.Rule7.{every, row-places, is-zero, row-fits}
-use Rattle.plan.proofs.Counting.{none, more, ended}
 use Rattle.plan.proofs.Testing.{back}
+use Rattle.plan.proofs.Truths.{every-cong}
 use Rattle.rule_seven.proofs.places.row_fits.Statement.{statement}
 use Rattle.rule_seven.proofs.places.row_fits.Tie as tie
 
-abbrev Inv-loop : tie.InvT-loop
-Inv-loop h idc used row fit₀ i₀ fit i = (i ≤ row-places) × (fit ≡ every i (λ j. cond (ltb j used) (coefficient-fits h idc (getD row j (pos 0))) (is-zero (getD row j (pos 0)))))
+-- three places, and those after them
+three-and : (n : ℕ) (test : ℕ → Bool) → (test 0 && (test 1 && (test 2 && every n (λ j. test (suc (suc (suc j))))))) ≡ every (suc (suc (suc n))) test
+unfolding every
+three-and zero test = none (test 0) (test 1) (test 2)
+  where
+    none : (a b c : Bool) → (a && (b && (c && true))) ≡ (((true && a) && b) && c)
+    none true true true = refl
+    none true true false = refl
+    none true false c = refl
+    none false b c = refl
+three-and (suc n) test = moved (test 0) (test 1) (test 2) _ _ ∙ ap₂ _&&_ (three-and n test) refl
+  where
+    moved : (a b c d e : Bool) → (a && (b && (c && (d && e)))) ≡ ((a && (b && (c && d))) && e)
+    moved true true true d e = refl
+    moved true true false d e = refl
+    moved true false c d e = refl
+    moved false b c d e = refl
 
-abbrev μ-loop : tie.MeasureT-loop
-μ-loop h idc used row fit₀ i₀ fit i = row-places - i
+module _ (used : ℕ) (few : used ≤ 3) (fits zeros : ℕ → Bool) where
+  abbrev place : ℕ → Bool
+  place j = cond (ltb j used) (fits j) (zeros j)
 
-loop-again : tie.Need-loop-again Inv-loop μ-loop
-loop-again c =
-    let lp : tie.At-loop Inv-loop μ-loop = search needs in
-    (omega arith, more _ (lp .loop .inv .1) (rw (back (c .before .coefficient-place-arg .given)) at (c .coefficient-place .ensures)))
+  -- none of the others is used
+  others : every (row-places - 3) (λ j. zeros (3 + j)) ≡ every (row-places - 3) (λ j. place (suc (suc (suc j))))
+  others = every-cong (row-places - 3) (λ j b. rw (le-ltb (suc (suc (suc j))) used (omega arith)) (ap zeros (past j)))
+    where
+      past : (j : ℕ) → 3 + j ≡ suc (suc (suc j))
+      past j = omega arith
 
-returns : tie.Need-returns Inv-loop μ-loop
+  few-fit : (place 0 && (place 1 && (place 2 && every (row-places - 3) (λ j. zeros (3 + j))))) ≡ every row-places place
+  few-fit = ap (λ (t : Bool). place 0 && (place 1 && (place 2 && t))) others ∙ three-and (row-places - 3) place
+
+returns-2 : tie.Need-returns-2
 unfolding row-fits
-returns c =
-    let lp : tie.At-loop Inv-loop μ-loop = search needs in
-    ended _ (lp .loop .inv .0) (c .loop-test .left) (lp .loop .inv .1)
+returns-2 c =
+    let s : tie.Start = search needs in
+    let e : tie.Else1 = search needs in
+    let x : tie.After-coefficient-place = search needs in
+    let y : tie.After-coefficient-place2 = search needs in
+    let z : tie.After-coefficient-place3 = search needs in
+    ap₂ _&&_ (rw (back (x .before .coefficient-place-arg .given)) at (x .coefficient-place .ensures))
+    (ap₂ _&&_ (rw (back (y .before .coefficient-place-arg2 .given)) at (y .coefficient-place2 .ensures))
+    (ap₂ _&&_ (rw (back (z .before .coefficient-place-arg3 .given)) at (z .coefficient-place3 .ensures)) (c .rest-is-zero .ensures)))
+    ∙ few-fit (s .args .used) (e .if1 .left) (λ j. coefficient-fits (s .args .h) (s .args .idc) (getD (s .args .t4) j (pos 0))) (λ j. is-zero (getD (s .args .t4) j (pos 0)))
 
 pub row-fits-spec : {M : Type 1} → statement M
 row-fits-spec =
     tie.close
     (tie.spec
-    Inv-loop
-    μ-loop
-    (λ c. (omega arith, none _))
-    (λ c. search needs) (λ c. search needs) (λ c κs. search needs) (λ c. search needs) (λ c. search needs)
-    loop-again
-    returns)
+    (λ c κs. search needs) (λ c. search needs)
+    (λ c. search needs) (λ c κs. search needs)
+    (λ c. search needs) (λ c κs. search needs)
+    (λ c. search needs) (λ c κs. search needs)
+    (λ c κs. search needs)
+    returns-2)
