@@ -51,7 +51,7 @@ object() {
   fi
   sed -E -e 's/^target datalayout = .*/target datalayout = "e-m:e-i8:8:32-i16:16:32-i64:64-i128:128-n32:64-S128-Fn32"/' \
     -e "s/^target triple = .*/target triple = \"$machine-unknown-linux-gnu\"/" -e 's/"target-cpu"="x86-64"//' \
-    -e 's/ byval\(\[[0-9]+ x i8\]\) align [0-9]+//g' "$out/$2.ll" >"$out/$2.native.ll"
+    -e 's/ byval\([^)]*\) (align [0-9]+)/ \1/g' "$out/$2.ll" >"$out/$2.native.ll"
   "$clang" --target="$machine-unknown-linux-gnu" --no-default-config -x ir -fPIC -O3 -c "$out/$2.native.ll" -o "$out/$2.o"
 }
 

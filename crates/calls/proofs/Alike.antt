@@ -12,7 +12,7 @@ use Rattle.plan.specs.Rule7.{fitting}
 use Rattle.plan.specs.Tables.{has-mmr}
 use Rattle.filling.specs.Filling.{filling-refusal, filled, table-after, filling-answer}
 use Rattle.filling.proofs.Meaning.{Accepted, accepted}
-use Rattle.jobs.specs.Jobs.{Job, job, lend, job-answer, output-after, marks-after}
+use Rattle.jobs.specs.Jobs.{Job, lend, job-answer, output-after, marks-after}
 use Rattle.table_jobs.proofs.Same.{same-output, same-marks, same-answer}
 use Rattle.calls.specs.Calls.{Memory, memory, filling-plan, done, table-done}
 use Rattle.calls.specs.Alike.{BothCallsAlike}

@@ -1,6 +1,6 @@
 -- Two outcomes that a promise allows are equal: each promise is an equation, and what an answer says determines it. Assumes nothing.
 use mathlib.Core.Path.{_≡_, refl, sym, ap, _∙_}
-use mathlib.Core.Bool.{true, false, true≢false}
+use mathlib.Core.Bool.{true≢false}
 use lib.ListN.{getD}
 use Rattle.refusals.specs.Refusals.{Outcome}
 use Rattle.compose.specs.declared.Composed.{Composed}

@@ -1,26 +1,25 @@
 -- A chroma sample that MMR may have mapped is the composed one. Assumes nothing.
-use mathlib.Core.Path.{_≡_, refl, sym, ap, ap₂, subst, _∙_}
+use mathlib.Core.Path.{_≡_, refl, sym, ap, ap₂, _∙_}
 use mathlib.Core.Bool.{Bool, true, false, _||_, cond}
 use mathlib.Core.List.{List}
-use Prim.Native.Nat.{ℕ, _+_, _-_, _*_, _/_, _%_, _^_, _<_, _≤_, min}
-use native.Mathlib.Nat.{div-add-mod', mod-lt, div-lt-iff-lt-mul, le-div-iff-mul-le, mul-comm, mul-assoc, mul-left-comm, mul-le-mul-left, mul-add, le-trans}
+use Prim.Native.Nat.{ℕ, _+_, _-_, _*_, _/_, _%_, _^_, _<_, _≤_}
+use native.Mathlib.Nat.{div-add-mod', mod-lt, div-lt-iff-lt-mul, le-div-iff-mul-le, mul-comm, mul-assoc, mul-left-comm, mul-le-mul-left, mul-add}
 use native.Mathlib.Omega.{arith}
 use lib.Arith.{digits-div, digits-mod}
-use lib.Dec.{ltb, eqb}
-use lib.IntN.{ℤ, pos, natAbs}
-use lib.ListN.{length, getD}
+use lib.Dec.{eqb}
+use lib.ListN.{length}
 use borrow.Author.Tests.{lt-ltb, le-ltb, le-leb, eq-eqb}
 use Rattle.runs.specs.Runs.{painted, between}
 use Rattle.runs.specs.inner.Loops.{at}
 use Rattle.runs.proofs.Between.{between-true, in-between}
 use Rattle.runs.proofs.Painting.{painted-cong, painted-over}
 use Rattle.standard.specs.Parameters.{Mmr, Mapping}
-use Rattle.standard.specs.Mapping.{pivot-value, pivot-idx, mapped}
+use Rattle.standard.specs.Mapping.{pivot-value, pivot-idx}
 use Rattle.standard.specs.Mmr.{down-sampled, mmr, to-pivots, mmr-mapped, chroma-mapped}
 use Rattle.picture.specs.declared.Extent.{Extent}
 use Rattle.picture.specs.declared.Plane.{Plane}
 use Rattle.picture.specs.Picture.{width, luma-size, chroma-size, picture-size}
-use Rattle.picture.specs.inner.Planes.{planes, luma-plane, cb-plane, cr-plane, row-start, in-rows, InPicture}
+use Rattle.picture.specs.inner.Planes.{planes, luma-plane, cb-plane, cr-plane, row-start, in-rows}
 use Rattle.picture.proofs.Rows.{rows-between}
 use Rattle.picture.proofs.Three.{luma-four}
 use Rattle.plan.specs.declared.Header.{Header}
@@ -28,7 +27,7 @@ use Rattle.plan.specs.declared.Component.{Component}
 use Rattle.plan.specs.declared.Plan.{Plan}
 use Rattle.plan.specs.Parameters.{mapping}
 use Rattle.plan.specs.Ranges.{most-n, bl-depth, header-fits}
-use Rattle.plan.specs.Rule7.{fitting, usable}
+use Rattle.plan.specs.Rule7.{fitting}
 use Rattle.plan.specs.inner.Facts.{HeaderFacts, ComponentFacts}
 use Rattle.plan.proofs.Facts.{header-facts, component-facts, y-usable, cb-usable, cr-usable}
 use Rattle.plan.proofs.Truths.{both}
@@ -44,7 +43,7 @@ use Rattle.mmr.specs.inner.Rows.{place-of}
 use Rattle.mmr.specs.inner.Ready.{mapped-chroma}
 use Rattle.mmr.specs.inner.Chroma.{format-of, composed-chroma, chroma-value, chroma-fits, chroma-painted, chroma-after}
 use Rattle.mmr.proofs.Meaning.{cb-means, cr-means, luma-low}
-use Rattle.compose.specs.Composing.{luma-row, chroma-at}
+use Rattle.compose.specs.Composing.{chroma-at}
 use Rattle.compose.proofs.Samples.{CodesIn, cb-mapped, cr-mapped}
 
 -- no mapped sample is above 65,535

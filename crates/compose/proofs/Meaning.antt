@@ -1,18 +1,18 @@
 -- By tables, or chroma by MMR, each sample of a plane is the composed one, and the planes together are the picture. Assumes nothing.
-use mathlib.Core.Path.{_≡_, refl, sym, ap, ap₂, _∙_}
+use mathlib.Core.Path.{_≡_, refl, sym, ap, _∙_}
 use mathlib.Core.Bool.{Bool, true, false, _&&_, cond}
 use mathlib.Core.List.{List}
 use Prim.Native.Nat.{ℕ, _+_, _-_, _*_, _%_, _^_, _<_, _≤_}
 use native.Mathlib.Nat.{mul-assoc, mul-le-mul-left}
 use native.Mathlib.Omega.{arith}
 use lib.Dec.{ltb}
-use lib.IntN.{ℤ, pos}
+use lib.IntN.{pos}
 use lib.ListN.{length, getD, getD-replicate}
 use borrow.Author.Tests.{leb-true}
 use Rattle.runs.specs.Runs.{painted, between}
 use Rattle.runs.specs.inner.Loops.{at}
 use Rattle.runs.proofs.Between.{between-true}
-use Rattle.runs.proofs.Painting.{painted-cong, length-painted}
+use Rattle.runs.proofs.Painting.{length-painted}
 use Rattle.runs.specs.inner.Tables.{coded}
 use Rattle.runs.proofs.Tables.{length-table}
 use Rattle.standard.specs.Mapping.{pivot-value, pivot-idx, mapped}
@@ -23,8 +23,8 @@ use Rattle.picture.specs.declared.Extent.{Extent}
 use Rattle.picture.specs.declared.Plane.{Plane}
 use Rattle.picture.specs.Picture.{luma-size, chroma-size, of-plane, in-pairs}
 use Rattle.picture.specs.inner.Planes.{luma-plane, cb-plane, cr-plane, in-rows, InPicture}
-use Rattle.picture.proofs.Rows.{rows-between, rows-inside}
-use Rattle.picture.proofs.Three.{luma-four, in-luma-plane, in-cb-plane, in-cr-plane, luma-selected, cb-selected, cr-selected, painted-planes, of-plane-ap}
+use Rattle.picture.proofs.Rows.{rows-between}
+use Rattle.picture.proofs.Three.{luma-four, in-luma-plane, in-cb-plane, in-cr-plane, painted-planes, of-plane-ap}
 use Rattle.plan.specs.declared.Header.{Header}
 use Rattle.plan.specs.declared.Nlq.{Nlq}
 use Rattle.plan.specs.declared.Component.{Component}
@@ -39,17 +39,16 @@ use Rattle.mapping.proofs.Mappable.{pieces-facts, usable-maps}
 use Rattle.mapping.proofs.Meaning.{mapped-found, mapped-le}
 use Rattle.residual.specs.declared.Pair.{Pair}
 use Rattle.residual.specs.inner.Raising.{raised}
-use Rattle.residual.specs.inner.Tables.{residual-table, no-residual, finished-table, cut-numbers}
-use Rattle.residual.proofs.Meaning.{pair-found, raised-found, residual-small, finished-found, cut-found}
-use Rattle.spans.specs.inner.Spans.{entry, looked-up}
-use Rattle.sums.specs.inner.Sums.{cut-of, added-up}
+use Rattle.residual.specs.inner.Tables.{residual-table, no-residual, cut-numbers}
+use Rattle.residual.proofs.Meaning.{pair-found, raised-found, residual-small, cut-found}
+use Rattle.spans.specs.inner.Spans.{entry}
+use Rattle.sums.specs.inner.Sums.{cut-of}
 use Rattle.rules.specs.Rules.{extent, used}
 use Rattle.rows.specs.declared.Rows.{Rows}
 use Rattle.rows.specs.inner.Rows.{RowsIn}
-use Rattle.rows.proofs.Lending.{all-looked-up, all-added-up}
 use Rattle.mmr.specs.inner.Chroma.{chroma-after}
 use Rattle.planes.specs.inner.ByTables.{plain-plane, enhanced-plane, three, by-tables, plain-mixed, enhanced-mixed, plain-picture, enhanced-picture}
-use Rattle.compose.specs.Composing.{component-at, chroma-at, mapped-at, residual-at, composed-by, composed-at}
+use Rattle.compose.specs.Composing.{chroma-at, mapped-at, residual-at, composed-by, composed-at}
 use Rattle.compose.proofs.Samples.{apart, CodesIn, CodesInPicture, luma-mapped, cb-mapped, cr-mapped, plain-at, enhanced-at, three-mapped}
 use Rattle.compose.proofs.Planes.{Has, in-luma, in-cb, in-cr}
 use Rattle.compose.proofs.Planes as by-table

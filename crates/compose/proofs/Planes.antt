@@ -10,7 +10,7 @@ use Rattle.runs.specs.Runs.{painted, between}
 use Rattle.runs.specs.inner.Loops.{at}
 use Rattle.runs.proofs.Between.{between-true}
 use Rattle.runs.proofs.Painting.{painted-cong}
-use Rattle.standard.specs.Residual.{residual, reconstructed}
+use Rattle.standard.specs.Residual.{reconstructed}
 use Rattle.picture.specs.declared.Extent.{Extent}
 use Rattle.picture.specs.declared.Plane.{Plane}
 use Rattle.picture.specs.inner.Planes.{luma-plane, cb-plane, cr-plane, in-rows}
@@ -18,7 +18,6 @@ use Rattle.picture.proofs.Rows.{rows-inside}
 use Rattle.picture.proofs.Three.{in-luma-plane, in-cb-plane, in-cr-plane, luma-selected, cb-selected, cr-selected}
 use Rattle.plan.specs.declared.Header.{Header}
 use Rattle.plan.specs.declared.Nlq.{Nlq}
-use Rattle.plan.specs.Parameters.{quantization}
 use Rattle.plan.specs.Ranges.{el-depth, hdr-depth, header-fits}
 use Rattle.plan.specs.Rule7.{nlq-fits}
 use Rattle.residual.specs.inner.Tables.{residual-table, finished-table, cut-numbers}

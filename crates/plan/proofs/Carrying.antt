@@ -13,7 +13,7 @@ use mir.Val.{SFits, toZ, ofZ}
 use borrow.Author.Tests.{eqb-true, eq-eqb, ne-eqb}
 use Rattle.plan.specs.declared.Piece.{Piece}
 use Rattle.plan.specs.declared.Component.{Component}
-use Rattle.plan.specs.Rule7.{every, row-places, pieces-used, no-piece}
+use Rattle.plan.specs.Rule7.{row-places, pieces-used, no-piece}
 use Rattle.plan.specs.Versions.{pieces-carried, same-number, same-piece, can-carry}
 use Rattle.plan.proofs.Truths.{both, every-at, every-true}
 

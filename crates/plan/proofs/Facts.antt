@@ -1,7 +1,7 @@
 -- What a plan that passes rule 7 gives whoever computes with it. Assumes nothing.
 use mathlib.Core.Path.{_≡_, refl, sym}
 use mathlib.Core.Bool.{Bool, true, false, _&&_, cond}
-use Prim.Native.Nat.{ℕ, _+_, _*_, _^_, _≤_, _<_, zero-le}
+use Prim.Native.Nat.{ℕ, _+_, _^_, _≤_, zero-le}
 use native.Mathlib.Nat.{le-of-lt, pow-succ'}
 use native.Mathlib.Numerals.{add-one}
 use native.Mathlib.Omega.{arith}
@@ -14,7 +14,7 @@ use Rattle.plan.specs.declared.Nlq.{Nlq}
 use Rattle.plan.specs.declared.Component.{Component}
 use Rattle.plan.specs.declared.Plan.{Plan}
 use Rattle.plan.specs.Ranges.{most-columns, most-pairs, most-n, bl-depth, format-tests, format-fits, size-tests, size-fits, header-fits, count-fits, idc-fits, order-fits, unsigned-fits}
-use Rattle.plan.specs.Rule7.{pivot-places, piece-places, pivots-used, pieces-used, coefficients-used, row-fits, piece-fits, piece-empty, pivots-fit, pieces-fit, nlq-tests, nlq-fits, component-fits, usable, fitting, no-plan}
+use Rattle.plan.specs.Rule7.{pivot-places, piece-places, pivots-used, pieces-used, piece-fits, piece-empty, pivots-fit, pieces-fit, nlq-tests, nlq-fits, component-fits, usable, fitting, no-plan}
 use Rattle.plan.specs.inner.Facts.{HeaderFacts, PieceFacts, ComponentFacts, NlqFacts}
 use Rattle.plan.proofs.Truths.{both, each, inside, either-le, every-at, place-below}
 use Rattle.plan.proofs.Coefficients.{row-le, row-zero}

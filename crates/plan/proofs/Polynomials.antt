@@ -3,15 +3,15 @@ use mathlib.Core.Path.{_≡_, refl, sym, ap, ap₂, _∙_}
 use mathlib.Core.Bool.{Bool, true, false, not, _&&_, _||_, cond, true≢false}
 use Prim.Native.Nat.{ℕ, zero, suc, _<_, _≤_}
 use native.Mathlib.Omega.{arith}
-use lib.Dec.{leb, ltb, eqb}
+use lib.Dec.{ltb, eqb}
 use lib.ListN.{getD}
-use borrow.Author.Tests.{leb-true, eqb-true, eqb-false, ltb-true, lt-ltb, le-leb, ne-eqb}
+use borrow.Author.Tests.{leb-true, eqb-false, ltb-true, lt-ltb, le-leb, ne-eqb}
 use Rattle.plan.specs.declared.Header.{Header}
 use Rattle.plan.specs.declared.Piece.{Piece}
 use Rattle.plan.specs.declared.Component.{Component}
 use Rattle.plan.specs.declared.Plan.{Plan}
-use Rattle.plan.specs.Ranges.{most-n, header-fits, count-fits, idc-fits, order-fits}
-use Rattle.plan.specs.Rule7.{every, piece-places, pieces-used, coefficients-used, no-piece, row-fits, piece-fits, piece-empty, pivots-fit, pieces-fit, nlq-fits, component-fits, usable, fitting}
+use Rattle.plan.specs.Ranges.{most-n, header-fits, count-fits, idc-fits}
+use Rattle.plan.specs.Rule7.{piece-places, pieces-used, no-piece, piece-fits, piece-empty, pivots-fit, pieces-fit, component-fits, usable, fitting}
 use Rattle.plan.specs.Tables.{uses-mmr, has-mmr}
 use Rattle.plan.proofs.Truths.{both, every-at, every-true}
 

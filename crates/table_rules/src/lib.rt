@@ -9,7 +9,6 @@ use rules::refusal_of_pictures;
 ghost use mathlib.Core.Path.{_≡_};
 ghost use mathlib.Core.Bool.{cond, not};
 ghost use lib.Dec.{eqb};
-ghost use lib.ListN.{length};
 ghost use Rattle.plan.specs.Rule7.{fitting};
 ghost use Rattle.plan.specs.Tables.{table-size, has-mmr};
 ghost use Rattle.plan.specs.inner.Facts.{HeaderFacts};

@@ -1,6 +1,5 @@
 -- `compose::compose_row_pairs` meets its contract: a refusal writes nothing, and acceptance gives what the planes mean. Assumes nothing.
 use mathlib.Core.Path.{_≡_, sym, _∙_}
-use mathlib.Core.Bool.{true, false}
 use lib.ListN.{length}
 use native.Mathlib.Omega.{arith}
 use borrow.Author.Needs.{needs}

@@ -3,7 +3,6 @@ use mathlib.Core.Path.{refl}
 use Prim.Native.Nat.{_-_, _≤_}
 use native.Mathlib.Omega.{arith}
 use borrow.Author.Needs.{needs}
-use Rattle.runs.specs.Runs.{painted}
 use Rattle.runs.specs.inner.Loops.{at}
 use Rattle.runs.proofs.Painting.{PaintedFrom, paint-none, paint-more, paint-part}
 use Rattle.filling.proofs.fill_part.Statement.{statement}

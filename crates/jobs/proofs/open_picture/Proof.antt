@@ -4,7 +4,7 @@ use lib.ListN.{length}
 use borrow.Author.Needs.{needs}
 use borrow.Author.Tests.{eq-eqb, ne-eqb}
 use Rattle.refusals.proofs.Laws.{outcome-granted, outcome-denied}
-use Rattle.jobs.specs.Jobs.{opening-refusal, opening-accepted, opening-answer, opening-marks}
+use Rattle.jobs.specs.Jobs.{opening-accepted, opening-answer, opening-marks}
 use Rattle.jobs.proofs.open_picture.Statement.{statement}
 use Rattle.jobs.proofs.open_picture.Tie as tie
 

@@ -1,7 +1,7 @@
 -- `rule_seven::is_usable` meets its contract: the tests so far are joined, first of places that are used, then of the others. Assumes nothing.
 use mathlib.Core.Path.{_≡_, sym, _∙_}
 use mathlib.Core.Bool.{Bool, true, cond}
-use Prim.Native.Nat.{ℕ, _≤_, _-_, _+_}
+use Prim.Native.Nat.{ℕ, _≤_, _-_}
 use lib.Dec.{ltb}
 use lib.ListN.{getD}
 use native.Mathlib.Omega.{arith}

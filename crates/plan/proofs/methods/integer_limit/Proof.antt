@@ -1,7 +1,6 @@
 -- `methods::integer_limit` meets its contract. Assumes nothing.
 use mathlib.Core.Path.{refl}
 use native.Mathlib.Omega.{arith}
-use borrow.Author.Needs.{needs}
 use borrow.Author.Tests.{eq-eqb, ne-eqb}
 use Rattle.plan.proofs.methods.integer_limit.Statement.{statement}
 use Rattle.plan.proofs.methods.integer_limit.Tie as tie

@@ -1,6 +1,5 @@
 -- `methods::most_idc` meets its contract. Assumes nothing.
 use mathlib.Core.Path.{refl}
-use borrow.Author.Needs.{needs}
 use borrow.Author.Tests.{eq-eqb, ne-eqb}
 use Rattle.plan.proofs.methods.most_idc.Statement.{statement}
 use Rattle.plan.proofs.methods.most_idc.Tie as tie

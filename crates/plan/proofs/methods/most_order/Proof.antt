@@ -1,6 +1,5 @@
 -- `methods::most_order` meets its contract. Assumes nothing.
 use mathlib.Core.Path.{refl}
-use borrow.Author.Needs.{needs}
 use borrow.Author.Tests.{eq-eqb, ne-eqb}
 use Rattle.plan.proofs.methods.most_order.Statement.{statement}
 use Rattle.plan.proofs.methods.most_order.Tie as tie

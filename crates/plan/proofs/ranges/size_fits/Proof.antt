@@ -1,6 +1,6 @@
 use mathlib.Core.Bool.{and-true}
 use borrow.Author.Needs.{needs}
-use Rattle.plan.specs.Ranges.{size-fits, most-columns, most-pairs}
+use Rattle.plan.specs.Ranges.{size-fits}
 use Rattle.plan.proofs.ranges.size_fits.Statement.{statement}
 use Rattle.plan.proofs.ranges.size_fits.Tie as tie
 

@@ -1,4 +1,3 @@
-use borrow.Author.Needs.{needs}
 use Rattle.plan.proofs.Testing.{zero-test}
 use Rattle.rule_seven.proofs.places.is_zero.Statement.{statement}
 use Rattle.rule_seven.proofs.places.is_zero.Tie as tie

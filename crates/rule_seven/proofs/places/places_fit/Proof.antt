@@ -1,5 +1,5 @@
 -- `rule_seven::places::places_fit` meets its contract: the tests so far are joined. Assumes nothing.
-use mathlib.Core.Path.{_≡_, ap, _∙_}
+use mathlib.Core.Path.{_≡_}
 use mathlib.Core.Bool.{cond}
 use Prim.Native.Nat.{_≤_, _-_}
 use lib.Dec.{ltb}

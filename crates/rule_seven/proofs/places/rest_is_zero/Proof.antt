@@ -1,5 +1,5 @@
 -- `rule_seven::places::rest_is_zero` meets its contract: the tests so far are joined. Assumes nothing.
-use mathlib.Core.Path.{_≡_, refl}
+use mathlib.Core.Path.{_≡_}
 use Prim.Native.Nat.{_+_, _-_, _≤_}
 use native.Mathlib.Omega.{arith}
 use lib.IntN.{pos}

@@ -1,7 +1,7 @@
 -- `rule_seven::ranges::coefficient_fits` meets its contract: nothing is shifted out, and the words hold the limits. Assumes nothing.
-use mathlib.Core.Path.{_≡_, ap, _∙_}
+use mathlib.Core.Path.{_≡_}
 use Prim.Native.Nat.{ℕ, _*_, _%_, _^_, _≤_}
-use native.Mathlib.Nat.{mod-eq-of-lt, le-trans, mul-le-mul}
+use native.Mathlib.Nat.{mod-eq-of-lt, mul-le-mul}
 use native.Mathlib.Omega.{arith}
 use lib.IntN.{pos, +ℤ-idl}
 use lib.Pow.{pow-mono}
