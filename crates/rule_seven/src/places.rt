@@ -11,7 +11,7 @@ use plan::methods::most_order;
 ghost use mathlib.Core.Path.{_≡_};
 ghost use mathlib.Core.Bool.{cond};
 ghost use lib.Dec.{eqb, ltb};
-ghost use Prim.Native.Nat.{_+_, _-_};
+ghost use Prim.Native.Nat.{_+_, _-_, _≤_};
 ghost use lib.IntN.{pos};
 ghost use lib.ListN.{getD};
 ghost use Rattle.plan.specs.Ranges.{pivot-fits, coefficient-fits};
@@ -65,7 +65,17 @@ fn rest_is_zero(row: [i64; ROW]) -> bool
     zero
 }
 
-// A row of which the first `used` places are used. Most have a polynomial's few coefficients, or none.
+// A row of a polynomial's few places, of which the first `used` are used.
+fn few_fit(h: Header, idc: u8, used: usize, row: [i64; ROW]) -> bool
+    requires { ⌜ HeaderFacts h × (used ≤ 3) ⌝ }
+    ensures { λ r. ⌜ r ≡ row-fits h idc used row ⌝ }
+{
+    let first = coefficient_place(h, idc, 0 < used, row[0]);
+    let second = coefficient_place(h, idc, 1 < used, row[1]);
+    let third = coefficient_place(h, idc, 2 < used, row[2]);
+    first & (second & (third & rest_is_zero(row)))
+}
+
 fn row_fits(h: Header, idc: u8, used: usize, row: [i64; ROW]) -> bool
     requires { ⌜ HeaderFacts h ⌝ }
     ensures { λ r. ⌜ r ≡ row-fits h idc used row ⌝ }
@@ -73,17 +83,33 @@ fn row_fits(h: Header, idc: u8, used: usize, row: [i64; ROW]) -> bool
     if POLYNOMIAL < used {
         return places_fit(h, idc, used, row);
     }
-    let first = coefficient_place(h, idc, 0 < used, row[0]);
-    let second = coefficient_place(h, idc, 1 < used, row[1]);
-    let third = coefficient_place(h, idc, 2 < used, row[2]);
-    first & (second & (third & rest_is_zero(row)))
+    few_fit(h, idc, used, row)
 }
 
-// A piece of component k: 0 is luma, 1 Cb and 2 Cr.
+// A piece of luma, and of any component without MMR.
+fn polynomial_fits(h: Header, q: Piece) -> bool
+    requires { ⌜ HeaderFacts h ⌝ }
+    ensures { λ r. ⌜ r ≡ piece-fits 0 h q ⌝ }
+{
+    if q.idc != 0 {
+        return false;
+    }
+    if q.order > 1 {
+        return false;
+    }
+    let row = q.row;
+    few_fit(h, 0, (q.order as usize) + 2, row)
+}
+
+// A piece of component k: 0 is luma, 1 Cb and 2 Cr. Where k is known to be 0 the compiler has a loop for it alone, in which
+// a row's places past the third are joined two at once.
 pub(crate) fn piece_fits(k: usize, h: Header, q: Piece) -> bool
     requires { ⌜ HeaderFacts h ⌝ }
     ensures { λ r. ⌜ r ≡ piece-fits k h q ⌝ }
 {
+    if k == 0 {
+        return polynomial_fits(h, q);
+    }
     let row = q.row;
     let fits = row_fits(h, q.idc, coefficients_used(q.idc, q.order), row);
     (q.idc <= most_idc(k)) & ((q.order <= most_order(q.idc)) & fits)
@@ -94,7 +120,7 @@ pub(crate) fn piece_empty(h: Header, q: Piece) -> bool
     ensures { λ r. ⌜ r ≡ piece-empty h q ⌝ }
 {
     let row = q.row;
-    let empty = row_fits(h, 0, 0, row);
+    let empty = few_fit(h, 0, 0, row);
     (q.idc == 0) & ((q.order == 0) & empty)
 }
 

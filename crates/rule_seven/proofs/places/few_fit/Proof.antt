@@ -1,4 +1,4 @@
--- `rule_seven::places::row_fits` meets its contract: past a polynomial's few places a row is tested for 0 alone. Assumes nothing.
+-- `rule_seven::places::few_fit` meets its contract: past a polynomial's few places a row is tested for 0 alone. Assumes nothing.
 use mathlib.Core.Path.{_≡_, refl, ap, ap₂, _∙_}
 use mathlib.Core.Bool.{Bool, true, false, _&&_, cond}
 use Prim.Native.Nat.{ℕ, zero, suc, _+_, _-_, _≤_}
@@ -12,8 +12,8 @@ use Rattle.plan.specs.Ranges.{coefficient-fits}
 use Rattle.plan.specs.Rule7.{every, row-places, is-zero, row-fits}
 use Rattle.plan.proofs.Testing.{back}
 use Rattle.plan.proofs.Truths.{every-cong}
-use Rattle.rule_seven.proofs.places.row_fits.Statement.{statement}
-use Rattle.rule_seven.proofs.places.row_fits.Tie as tie
+use Rattle.rule_seven.proofs.places.few_fit.Statement.{statement}
+use Rattle.rule_seven.proofs.places.few_fit.Tie as tie
 
 -- three places, and those after them
 three-and : (n : ℕ) (test : ℕ → Bool) → (test 0 && (test 1 && (test 2 && every n (λ j. test (suc (suc (suc j))))))) ≡ every (suc (suc (suc n))) test
@@ -47,26 +47,24 @@ module _ (used : ℕ) (few : used ≤ 3) (fits zeros : ℕ → Bool) where
   few-fit : (place 0 && (place 1 && (place 2 && every (row-places - 3) (λ j. zeros (3 + j))))) ≡ every row-places place
   few-fit = ap (λ (t : Bool). place 0 && (place 1 && (place 2 && t))) others ∙ three-and (row-places - 3) place
 
-returns-2 : tie.Need-returns-2
+returns : tie.Need-returns
 unfolding row-fits
-returns-2 c =
+returns c =
     let s : tie.Start = search needs in
-    let e : tie.Else1 = search needs in
     let x : tie.After-coefficient-place = search needs in
     let y : tie.After-coefficient-place2 = search needs in
     let z : tie.After-coefficient-place3 = search needs in
     ap₂ _&&_ (rw (back (x .before .coefficient-place-arg .given)) at (x .coefficient-place .ensures))
     (ap₂ _&&_ (rw (back (y .before .coefficient-place-arg2 .given)) at (y .coefficient-place2 .ensures))
     (ap₂ _&&_ (rw (back (z .before .coefficient-place-arg3 .given)) at (z .coefficient-place3 .ensures)) (c .rest-is-zero .ensures)))
-    ∙ few-fit (s .args .used) (e .if1 .left) (λ j. coefficient-fits (s .args .h) (s .args .idc) (getD (s .args .t4) j (pos 0))) (λ j. is-zero (getD (s .args .t4) j (pos 0)))
+    ∙ few-fit (s .args .used) (s .pre .1) (λ j. coefficient-fits (s .args .h) (s .args .idc) (getD (s .args .t4) j (pos 0))) (λ j. is-zero (getD (s .args .t4) j (pos 0)))
 
-pub row-fits-spec : {M : Type 1} → statement M
-row-fits-spec =
+pub few-fit-spec : {M : Type 1} → statement M
+few-fit-spec =
     tie.close
     (tie.spec
-    (λ c κs. search needs) (λ c. search needs)
     (λ c. search needs) (λ c κs. search needs)
     (λ c. search needs) (λ c κs. search needs)
     (λ c. search needs) (λ c κs. search needs)
     (λ c κs. search needs)
-    returns-2)
+    returns)
