@@ -4,7 +4,7 @@ use denote.Ref.{now}
 use Rattle.picture.proofs.planes_of.Reads as planes-of-promise
 use Rattle.rules.proofs.extent_of.Reads as extent-of-promise
 use Rattle.rules.proofs.is_used.Reads as is-used-promise
-use Rattle.spans.proofs.joined.Reads as joined-promise
+use Rattle.spans.proofs.joined_six.Reads as joined-six-promise
 use Rattle.spans.proofs.four.Reads as four-promise
 use Rattle.spans.proofs.put_four.Reads as put-four-promise
 use Rattle.spans.proofs.look_up.Reads as look-up-promise
@@ -69,7 +69,7 @@ pub record LeavesSettled : Type 0 where
   pub planes-of : OneAnswer planes-of-promise.Post
   pub extent-of : OneAnswer extent-of-promise.Post
   pub is-used : OneAnswer is-used-promise.Post
-  pub joined : OneAnswer joined-promise.Post
+  pub joined-six : OneAnswer joined-six-promise.Post
   pub four : OneAnswer four-promise.Post
   pub four-put : OneContent put-four-promise.Post (λ c. now (c .left .1 .0))
   pub looked-up-output : OneContent look-up-promise.Post (λ c. now (c .left .1 .1 .0))

@@ -1,8 +1,10 @@
--- What the loop over a run of samples writes at an index. An index of a table is taken below its size, so any sample is one.
+-- What the loops over runs of samples write at an index, and what they join. An index of a table is taken below its
+-- size, so any sample is one.
 use mathlib.Core.Path.{_≡_}
 use mathlib.Core.Bool.{cond}
 use mathlib.Core.List.{List}
-use Prim.Native.Nat.{ℕ, _+_, _*_, _/_, _%_, _^_, _<_}
+use Prim.Native.Nat.{ℕ, zero, suc, _+_, _*_, _/_, _%_, _^_, _<_, min}
+use lib.Bits.{bitOr}
 use lib.Dec.{ltb}
 use lib.ListN.{length}
 use Rattle.runs.specs.Runs.{painted}
@@ -38,3 +40,19 @@ Joins f i x = (k : ℕ) → k < 4 → sample-of x k ≡ f (i + k)
 -- a run after four samples were stored at its start; as it was where it has no four
 unfoldable pub put-four : ℕ → List ℕ → List ℕ
 put-four x run = cond (ltb (length run) 4) run (painted (below 4) (sample-of x) run)
+
+-- every bit that one of the first n numbers of a sequence has
+unfoldable pub bits-below : (ℕ → ℕ) → ℕ → ℕ
+bits-below f zero = 0
+bits-below f (suc n) = bitOr (bits-below f n) (f n)
+
+-- six runs in step: how many places all of them have, every bit that one has at a place, and every bit at those places
+module _ (a b c d e f : List ℕ) where
+  abbrev pub places-of-six : ℕ
+  places-of-six = min (min (length a) (length b)) (min (min (length c) (length d)) (min (length e) (length f)))
+
+  abbrev pub six-at : ℕ → ℕ
+  six-at i = bitOr (bitOr (at a i) (at b i)) (bitOr (bitOr (at c i) (at d i)) (bitOr (at e i) (at f i)))
+
+  unfoldable pub joined-six : ℕ
+  joined-six = bits-below six-at places-of-six
