@@ -77,15 +77,6 @@ static void look_up_sums(const uint16_t *restrict mapped, const uint32_t *restri
         output[i] = cuts[(mapped[base[i]] + raised[enhancement[i]]) >> shift];
 }
 
-/* rule 11; the limit is a power of two, so the samples may be joined instead of compared */
-static int some_large(const uint16_t *run, size_t from, size_t to, uint16_t limit)
-{
-    uint16_t all = 0;
-    for (size_t i = from; i < to; i++)
-        all |= run[i];
-    return all >= limit;
-}
-
 /* the samples of each plane that the row pairs have */
 typedef struct {
     size_t from[3], to[3];
@@ -95,6 +86,18 @@ static Spans spans_of(const Header *h, size_t first, size_t count)
 {
     size_t n = (size_t)h->columns * h->pairs, a = h->columns * first, b = h->columns * (first + count);
     return (Spans){{4 * a, 4 * n + a, 5 * n + a}, {4 * b, 4 * n + b, 5 * n + b}};
+}
+
+/* Rule 11. The limit is a power of two, so the samples may be joined instead of compared. Those of the row pairs are six
+   runs of equal length, four of luma; gone over in step they come faster from memory than one after the other. */
+static int some_large(const uint16_t *run, const Spans *s, uint16_t limit)
+{
+    size_t n = s->to[1] - s->from[1];
+    const uint16_t *y = run + s->from[0], *cb = run + s->from[1], *cr = run + s->from[2];
+    uint16_t all = 0;
+    for (size_t i = 0; i < n; i++)
+        all |= y[i] | y[n + i] | y[2 * n + i] | y[3 * n + i] | cb[i] | cr[i];
+    return all >= limit;
 }
 
 /* rules 9 to 11; 0 where none is met */
@@ -108,10 +111,8 @@ static uint8_t refusal(const Header *h, size_t first, size_t count, const uint16
         return 10;
     Spans s = spans_of(h, first, count);
     uint16_t limit = (uint16_t)(1u << (h->bl + 8));
-    for (int k = 0; k < 3; k++)
-        if (some_large(base, s.from[k], s.to[k], limit) ||
-            (enhanced && some_large(enhancement, s.from[k], s.to[k], limit)))
-            return 11;
+    if (some_large(base, &s, limit) || (enhanced && some_large(enhancement, &s, limit)))
+        return 11;
     return 0;
 }
 #endif
