@@ -52,12 +52,19 @@ pub fn is_usable(k: usize, h: Header, c: Component) -> bool
     pivots & (fit & residual)
 }
 
-// Rule 7: whether a plan that is handed in keeps every range and has 0 in every unused place.
+// Rule 7: whether a plan that is handed in keeps every range and has 0 in every unused place. A component is named on its
+// way to its test: it is then handed on where it lies in the plan, and not copied.
 pub fn passes(plan: Plan) -> bool
     ensures { λ r. ⌜ r ≡ fitting plan ⌝ }
 {
-    is_usable(0, plan.header, plan.y)
-        & (is_usable(1, plan.header, plan.cb) & is_usable(2, plan.header, plan.cr))
+    let h = plan.header;
+    let y = plan.y;
+    let luma = is_usable(0, h, y);
+    let cb = plan.cb;
+    let blue = is_usable(1, h, cb);
+    let cr = plan.cr;
+    let red = is_usable(2, h, cr);
+    luma & (blue & red)
 }
 
 // The same, and no piece is MMR: each component is one that luma could be.

@@ -2,8 +2,7 @@
 // looked through once: it meets neither 7 nor 13.
 use plan::Header;
 use plan::Plan;
-use rule_seven::all_polynomials;
-use rule_seven::passes;
+use rule_seven::is_usable;
 use rules::lengths::is_wrong_length;
 use rules::refusal_of_pictures;
 ghost use mathlib.Core.Path.{_≡_};
@@ -22,14 +21,25 @@ fn is_wrong_table(h: Header, table: usize) -> bool
     table != (3usize << ((h.bl as u32) + 8))
 }
 
-// Whether a table can be lent with a plan: 0 where it meets rule 7, 1 where it has polynomials alone, 2 where it has MMR too.
+// Rules 7 and 13 by one look at a plan: 0 where it meets 7, 1 where it has polynomials alone, 2 where it has MMR too. With
+// polynomials alone each component is one that luma could be, and so it is asked first. This is not a call of `rule_seven`:
+// in its one caller the components are handed on where they lie in the plan, and else they are copied.
 fn method_of(plan: Plan) -> u8
     ensures { λ r. ⌜ r ≡ cond (fitting plan) (cond (has-mmr plan) 2 1) 0 ⌝ }
 {
-    if all_polynomials(plan) {
+    let h = plan.header;
+    let y = plan.y;
+    let luma = is_usable(0, h, y);
+    let cb = plan.cb;
+    let blue = is_usable(0, h, cb);
+    let cr = plan.cr;
+    let red = is_usable(0, h, cr);
+    if luma & (blue & red) {
         return 1;
     }
-    if passes(plan) { 2 } else { 0 }
+    let any_blue = is_usable(1, h, cb);
+    let any_red = is_usable(2, h, cr);
+    if luma & (any_blue & any_red) { 2 } else { 0 }
 }
 
 // The first rule met, in this order; 0 where none is. The plan is asked once and not read again: handed to one call more it
