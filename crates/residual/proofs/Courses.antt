@@ -2,10 +2,10 @@
 -- comes to. Assumes nothing.
 use mathlib.Core.Path.{_≡_, refl, sym, ap, _∙_}
 use Prim.Native.Nat.{ℕ, zero, suc, _+_, _-_, _*_, _^_, _<_, _≤_}
-use native.Mathlib.Nat.{le-refl, le-trans}
+use native.Mathlib.Nat.{le-refl, le-trans, le-of-eq, mul-comm, mul-assoc, mul-le-mul-right}
 use native.Mathlib.Omega.{arith}
 use lib.IntN.{ℤ, pos, negsuc, natAbs, negℤ, _+ℤ_, _-ℤ_, _*ℤ_, +ℤ-assoc, +ℤ-comm, +ℤ-invr}
-use lib.Pow.{pow-mono}
+use lib.Pow.{pow-add}
 use borrow.Author.Tests.{lt-ltb, le-ltb}
 use Rattle.words.proofs.Bounds.{add-in, sub-in, mul-in}
 use Rattle.words.proofs.Integers.{distrib}
@@ -14,7 +14,7 @@ use Rattle.standard.proofs.Residuals.{none, steps}
 use Rattle.plan.specs.declared.Nlq.{Nlq}
 use Rattle.plan.specs.Parameters.{quantization}
 use Rattle.residual.specs.inner.Raising.{raised}
-use Rattle.residual.specs.inner.Steps.{growth, limited-by, raised-by, raised-code, Beside}
+use Rattle.residual.specs.inner.Steps.{far-of, growth, limited-by, raised-by, raised-code, Beside}
 
 -- the scaled distance of a code, by the sign of its side
 abbrev pub course : ℕ → Nlq → ℤ → ℕ → ℤ
@@ -40,23 +40,31 @@ next-course el q sign e =
     ∙ ap (λ (z : ℤ). z +ℤ t)
     (sym (distrib (rr *ℤ f) (pos 2 *ℤ f) s) ∙ ap (λ (z : ℤ). z *ℤ s) (sym (distrib rr (pos 2) f)) ∙ ap (λ (z : ℤ). z *ℤ f *ℤ s) (next-doubled e (q .offset) sign))
 
--- of a code up to the number of places
-pub course-le : (el : ℕ) (q : Nlq) (sign : ℤ) (e : ℕ) → q .slope ≤ 2 ^ 33 → q .threshold ≤ 2 ^ 33 → q .offset ≤ 1024 → natAbs sign ≤ 1 → e ≤ 1024 → natAbs (course el q sign e) ≤ 2 ^ 56
-course-le el q sign e slope threshold offset unit code =
-    let rr = pos e -ℤ pos (q .offset) in
-    let f = pos (2 ^ (10 - el)) in
-    let g = pos (2 ^ (10 - el + 1)) in
-    let s = pos (q .slope) in
-    let t = pos (q .threshold) in
-    let doubled = rr *ℤ pos 2 -ℤ sign in
-    let far = sub-in (rr *ℤ pos 2) sign (mul-in rr (pos 2) (sub-in (pos e) (pos (q .offset)) code offset) (le-refl 2)) unit in
-    let sloped = mul-in (doubled *ℤ f) s (mul-in doubled f far (pow-mono {i = 10 - el} {j = 10} (omega arith))) slope in
-    let moved = mul-in (t *ℤ g) sign (mul-in t g threshold (pow-mono {i = 10 - el + 1} {j = 11} (omega arith))) unit in
-    le-trans (add-in (doubled *ℤ f *ℤ s) (t *ℤ g *ℤ sign) sloped moved) (omega arith)
+-- the limit and a code up to the number of places, by what they are divided by later
+module _ (el d : ℕ) (shallow : el ≤ 10) (deep : el + 5 ≤ d) where
+  -- a power of two that goes with el, times one that goes with d
+  joined : (i k : ℕ) → i + (d + 1) ≡ k + (d - 5 - el) → 2 ^ i * 2 ^ (d + 1) ≡ 2 ^ k * 2 ^ (d - 5 - el)
+  joined i k e = sym (pow-add 2 i (d + 1)) ∙ ap (λ (n : ℕ). 2 ^ n) e ∙ pow-add 2 k (d - 5 - el)
+
+  pub limit-le : (m : ℕ) → m ≤ 2 ^ (d + 1) → m * 2 ^ (10 - el + 1) ≤ 2 ^ 17 * 2 ^ (d - 5 - el)
+  limit-le m h = le-trans (mul-le-mul-right (2 ^ (10 - el + 1)) h) (le-of-eq (mul-comm (2 ^ (d + 1)) (2 ^ (10 - el + 1)) ∙ joined (10 - el + 1) 17 (omega arith)))
+
+  pub course-le : (q : Nlq) (sign : ℤ) (e : ℕ) → q .slope ≤ 2 ^ (d + 1) → q .threshold ≤ 2 ^ (d + 1) → q .offset ≤ 1024 → natAbs sign ≤ 1 → e ≤ 1024 → natAbs (course el q sign e) ≤ far-of (d - 5 - el)
+  course-le q sign e slope threshold offset unit code =
+      let rr = pos e -ℤ pos (q .offset) in
+      let f = pos (2 ^ (10 - el)) in
+      let g = pos (2 ^ (10 - el + 1)) in
+      let s = pos (q .slope) in
+      let t = pos (q .threshold) in
+      let doubled = rr *ℤ pos 2 -ℤ sign in
+      let far = sub-in (rr *ℤ pos 2) sign (mul-in rr (pos 2) (sub-in (pos e) (pos (q .offset)) code offset) (le-refl 2)) unit in
+      let sloped = mul-in (doubled *ℤ f) s (mul-in doubled f far (le-refl (2 ^ (10 - el)))) slope in
+      let moved = mul-in (t *ℤ g) sign (limit-le (q .threshold) threshold) unit in
+      le-trans (add-in (doubled *ℤ f *ℤ s) (t *ℤ g *ℤ sign) sloped moved) (rw (mul-assoc, joined (10 - el) 16 (omega arith)) (omega arith))
 
 -- what a code beside the offset comes to, and the one at it
 module _ (el d : ℕ) (q : Nlq) where
-  pub code-is : (sign : ℤ) (e : ℕ) → Beside (pos e -ℤ pos (q .offset)) sign → limited-by (d - 5 - el) (limit el (q .maximum)) (course el q sign e) ≡ residual el d (quantization q) e
+  code-is : (sign : ℤ) (e : ℕ) → Beside (pos e -ℤ pos (q .offset)) sign → limited-by (d - 5 - el) (limit el (q .maximum)) (course el q sign e) ≡ residual el d (quantization q) e
   code-is sign e b =
       steps el d (quantization q) e (pos e -ℤ pos (q .offset)) sign _ _ _ refl (b .apart) (b .is) refl refl refl
 

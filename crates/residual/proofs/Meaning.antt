@@ -58,8 +58,8 @@ module _ (h : Header) (u : header-fits h ≡ true) where
   unfolding cut-numbers lower-by lowered
   cut-found v r small low =
       let out : hdr-depth h ≤ 12 = omega (arith, header-kept h u .out-depth) in
-      let k : (v + raised (hdr-depth h) r) / 16 < 65536 = omega (arith, raised-less (hdr-depth h) r low) in
-      let s : 12 - hdr-depth h < 16 = omega arith in
+      let k : (v + raised (hdr-depth h) r) / 16 < 32768 = omega (arith, raised-less (hdr-depth h) r low) in
+      let s : 12 - hdr-depth h < 8 = omega arith in
       rw (u, mod-eq-of-lt k, mod-eq-of-lt s) (lowered-raised (hdr-depth h) out v r small)
 
 -- a header that cannot be computed with

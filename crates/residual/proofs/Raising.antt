@@ -74,7 +74,7 @@ module _ (out : ℕ) (h : out ≤ 12) where
   lowered-raised v r small = cut-sum v small (r +ℤ pos (2 ^ 17 + 2 ^ (15 - out))) ∙ sym (whole v r)
 
 -- a number raised by as much as it can be below 0
-not-negative : (r : ℤ) (n : ℕ) → natAbs r ≤ n → T (nonNeg (r +ℤ pos n)) × (natAbs (r +ℤ pos n) ≡ from-zero (r +ℤ pos n))
+pub not-negative : (r : ℤ) (n : ℕ) → natAbs r ≤ n → T (nonNeg (r +ℤ pos n)) × (natAbs (r +ℤ pos n) ≡ from-zero (r +ℤ pos n))
 not-negative (pos a) n b = (tt, refl)
 not-negative (negsuc a) n b = go (ltb n (suc a)) refl
   where

@@ -32,7 +32,7 @@ pub(crate) fn scale(el: u32, slope: u64, threshold: u64, rr: i64, sign: i64) -> 
     (rr * 2 - sign) * f * (slope as i64) + (threshold as i64) * g * sign
 }
 
-pub(crate) fn limit_of(el: u32, maximum: u64) -> i64
+fn limit_of(el: u32, maximum: u64) -> i64
     requires { ⌜ (el ≤ 10) × (maximum ≤ 2 ^ 33) ⌝ }
     ensures is { λ r. ⌜ r ≡ limit el maximum ⌝ }
     ensures low { λ r. ⌜ natAbs r ≤ 2 ^ 44 ⌝ }
@@ -40,7 +40,7 @@ pub(crate) fn limit_of(el: u32, maximum: u64) -> i64
     (maximum as i64) * (power(10 - el + 1) as i64)
 }
 
-pub(crate) fn limit_to(most: i64, dq: i64) -> i64
+fn limit_to(most: i64, dq: i64) -> i64
     requires { ⌜ natAbs most ≤ 2 ^ 44 ⌝ }
     ensures { λ r. ⌜ r ≡ limited most dq ⌝ }
 {
@@ -54,7 +54,7 @@ pub(crate) fn limit_to(most: i64, dq: i64) -> i64
 }
 
 // A number divided by a power of two, and rounded down: `/` would round a negative one toward 0.
-pub(crate) fn down(l: i64, k: u32) -> i64
+fn down(l: i64, k: u32) -> i64
     requires { ⌜ k ≤ 32 ⌝ }
     ensures { λ r. ⌜ r ≡ shrZ l (2 ^ k) ⌝ }
 {

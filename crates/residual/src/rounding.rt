@@ -6,7 +6,7 @@ ghost use Rattle.standard.specs.Residual.{reconstructed};
 ghost use Rattle.residual.specs.inner.Raising.{raised};
 
 pub(crate) fn power(k: u32) -> u64
-    requires { ⌜ k ≤ 32 ⌝ }
+    requires { ⌜ k ≤ 56 ⌝ }
     ensures { λ r. ⌜ r ≡ 2 ^ k ⌝ }
 {
     1u64 << k

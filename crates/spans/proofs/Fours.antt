@@ -121,9 +121,9 @@ pub four-stored : (x : ℕ) (run : List ℕ) → 4 ≤ length run → set (set (
 unfolding put-four sample-of
 four-stored x run h = rw (le-ltb (length run) 4 h) (paint-part 4 (paint-four (paint-none 0 (sample-of x) run) h (omega arith) (omega arith) (omega arith) (omega arith)) (omega arith))
 
--- ---- a loop that paints eight places a turn
-pub paint-eight : {a : ℕ} {f : ℕ → ℕ} {l : List ℕ} {i : ℕ} (k : ℕ) {run after : List ℕ} → PaintedFrom a f l i run → k ≡ i + 8 → after ≡ painted (between i (i + 8)) f run → PaintedFrom a f l k after
-paint-eight k g e p = rw e (paint-on g (record { from = omega arith; is = p; long = ap length p ∙ length-painted _ _ _ }))
+-- ---- a loop that paints several places a turn
+pub paint-turn : {a : ℕ} {f : ℕ → ℕ} {l : List ℕ} {i j : ℕ} (k : ℕ) {run after : List ℕ} → PaintedFrom a f l i run → i ≤ j → k ≡ j → after ≡ painted (between i j) f run → PaintedFrom a f l k after
+paint-turn k g h e p = rw e (paint-on g (record { from = h; is = p; long = ap length p ∙ length-painted _ _ _ }))
 
 -- before the first turn, and from the last one on
 pub paint-begun : (a i : ℕ) (f : ℕ → ℕ) (l : List ℕ) → i ≡ a → PaintedFrom a f l i l

@@ -1,8 +1,8 @@
 // Samples added up by two tables, over whole slices: mapped samples and raised residuals, of whose sums the samples are cut out.
-mod entries; // what is written for one sample
+mod entries; // what is added up for one sample
 mod passes; // the two passes over a part
 
-use entries::sixteenth_of;
+use entries::sum;
 use passes::lower;
 use passes::lower_all;
 use passes::sum_up;
@@ -25,20 +25,14 @@ pub struct Cut {
 pub fn cut_out(cut: Cut, v: u16, r: u32) -> u16
     ensures { λ h. ⌜ h ≡ cut-of cut (v + r) ⌝ }
 {
-    lower(cut.shift % 16, cut.low, cut.most, sixteenth_of(v, r))
+    lower(cut.shift % 8, cut.low, cut.most, sum(v, r))
 }
 
-// So many samples stay in the nearest cache from the first pass to the second.
-const PART: usize = 128;
-
-// The samples from `from` up to, but not including, `to`.
-struct Part {
-    from: usize,
-    to: usize,
-}
+// So many sums stay in the nearest cache from the first pass to the second.
+pub(crate) const PART: usize = 128;
 
 // Writes what is cut out of each sum of a mapped sample and a raised residual, part by part and each in two passes: the first
-// goes by the tables; the second has no table and no branch, so that eight samples are cut at once, while they are near.
+// goes by the tables; the second has no table and no branch, so that eight samples are cut at once, while their sums are near.
 pub fn add_up(
     mapped: &[u16; 1024],
     raised: &[u32; 1024],
@@ -50,14 +44,12 @@ pub fn add_up(
     ensures { λ _. ⌜ now (output .exit) ≡ painted (below (min (length (now (base .entry))) (length (now (enhancement .entry))))) (added-up (now (mapped .entry)) (now (raised .entry)) cut (now (base .entry)) (now (enhancement .entry))) (now (output .entry)) ⌝ }
 {
     let n = least(least(base.len(), enhancement.len()), output.len());
+    let mut sums = [0u32; PART];
     let mut i = 0;
     while i < n {
-        let p = Part {
-            from: i,
-            to: i + least(PART, n - i),
-        };
-        sum_up(mapped, raised, p, base, enhancement, output);
-        lower_all(cut, p, output);
-        i = p.to;
+        let j = i + least(PART, n - i);
+        sum_up(mapped, raised, &base[i..j], &enhancement[i..j], &mut sums);
+        lower_all(cut, &sums, &mut output[i..j]);
+        i = j;
     }
 }

@@ -1,29 +1,29 @@
-// The two passes of adding up a part: sums by the tables, and a sample cut out of each sum, in place. The run is as long as the
-// part's end asks; its own length is one that a word can hold, which is not known of a number in a struct.
+// The two passes of adding up a part: its sums by the tables, kept in 32 bits, and a sample cut out of each. A part has at most
+// so many samples as there are places for sums.
 use crate::Cut;
-use crate::Part;
+use crate::PART;
 use crate::entries::sum_of;
 use crate::entries::summed;
 use spans::four;
 use spans::least;
-use spans::put_four;
 ghost use mathlib.Core.Path.{_≡_};
 ghost use Prim.Native.Nat.{_+_, _-_, _/_, _^_, _<_, _≤_, min};
 ghost use lib.ListN.{length};
 ghost use Rattle.runs.specs.Runs.{painted, between};
-ghost use Rattle.spans.specs.inner.Spans.{Joins};
-ghost use Rattle.sums.specs.inner.Sums.{summed, lowered-at};
+ghost use Rattle.runs.specs.inner.Loops.{below};
+ghost use Rattle.sums.specs.inner.Sums.{sixteenth, summed, lowered-at};
 
-// Four sums as one number, of four samples of each run that are loaded at once.
-fn summed_four(
+// Four sums, of four samples of each run that are loaded at once. They are stored after all loads.
+fn sum_four(
     mapped: &[u16; 1024],
     raised: &[u32; 1024],
     base: &[u16],
     enhancement: &[u16],
     i: usize,
-) -> u64
-    requires { ⌜ (i + 4 ≤ length (now base)) × (i + 4 ≤ length (now enhancement)) ⌝ }
-    ensures { λ r. ⌜ Joins (summed (now (mapped .entry)) (now (raised .entry)) (now (base .entry)) (now (enhancement .entry))) i r ⌝ }
+    sums: &mut [u32; PART],
+)
+    requires { ⌜ (i + 4 ≤ length (now base)) × (i + 4 ≤ length (now enhancement)) × (i + 4 ≤ 128) × (length (now sums) ≡ 128) ⌝ }
+    ensures { λ _. ⌜ now (sums .exit) ≡ painted (between i (i + 4)) (summed (now (mapped .entry)) (now (raised .entry)) (now (base .entry)) (now (enhancement .entry))) (now (sums .entry)) ⌝ }
 {
     let j = i + 4;
     let w = four(&base[i..j]);
@@ -32,81 +32,76 @@ fn summed_four(
     let b = sum_of(mapped, raised, w >> 16, x >> 16);
     let c = sum_of(mapped, raised, w >> 32, x >> 32);
     let d = sum_of(mapped, raised, w >> 48, x >> 48);
-    (((a as u64) + ((b as u64) << 16)) + ((c as u64) << 32)) + ((d as u64) << 48)
+    sums[i] = a;
+    sums[i + 1] = b;
+    sums[i + 2] = c;
+    sums[i + 3] = d;
 }
 
-// Eight samples, stored after all their loads.
-fn sum_up_eight(
-    mapped: &[u16; 1024],
-    raised: &[u32; 1024],
-    base: &[u16],
-    enhancement: &[u16],
-    i: usize,
-    output: &mut [u16],
-)
-    requires { ⌜ (i + 8 ≤ length (now base)) × (i + 8 ≤ length (now enhancement)) × (i + 8 ≤ length (now output)) ⌝ }
-    ensures { λ _. ⌜ now (output .exit) ≡ painted (between i (i + 8)) (summed (now (mapped .entry)) (now (raised .entry)) (now (base .entry)) (now (enhancement .entry))) (now (output .entry)) ⌝ }
-{
-    let j = i + 4;
-    let x = summed_four(mapped, raised, base, enhancement, i);
-    let y = summed_four(mapped, raised, base, enhancement, j);
-    put_four(x, &mut output[i..j]);
-    put_four(y, &mut output[j..j + 4]);
-}
-
-// Eight samples a turn: a loop of one sample waits for its own counting.
+// The sums of a part, four a turn.
 pub(crate) fn sum_up(
     mapped: &[u16; 1024],
     raised: &[u32; 1024],
-    p: Part,
     base: &[u16],
     enhancement: &[u16],
-    output: &mut [u16],
+    sums: &mut [u32; PART],
 )
-    requires { ⌜ (p .from ≤ p .to) × (p .to ≤ length (now base)) × (p .to ≤ length (now enhancement)) × (p .to ≤ length (now output)) ⌝ }
-    ensures { λ _. ⌜ now (output .exit) ≡ painted (between (p .from) (p .to)) (summed (now (mapped .entry)) (now (raised .entry)) (now (base .entry)) (now (enhancement .entry))) (now (output .entry)) ⌝ }
+    requires { ⌜ length (now sums) ≡ 128 ⌝ }
+    ensures { λ _. ⌜ now (sums .exit) ≡ painted (below (min (length (now (base .entry))) (length (now (enhancement .entry))))) (summed (now (mapped .entry)) (now (raised .entry)) (now (base .entry)) (now (enhancement .entry))) (now (sums .entry)) ⌝ }
 {
-    let n = least(p.to, output.len());
-    let from = p.from;
-    let turns = (n - from) / 8;
+    let n = least(least(base.len(), enhancement.len()), PART);
+    let turns = n / 4;
     let mut t = 0;
     while t < turns {
-        sum_up_eight(mapped, raised, base, enhancement, from + 8 * t, output);
+        sum_four(mapped, raised, base, enhancement, 4 * t, sums);
         t += 1;
     }
-    let mut i = from + 8 * turns;
+    let mut i = 4 * turns;
     while i < n {
-        output[i] = summed(mapped, raised, base, enhancement, i);
+        sums[i] = summed(mapped, raised, base, enhancement, i);
         i += 1;
     }
 }
 
-pub(crate) fn lower(shift: u32, low: u16, most: u16, u: u16) -> u16
-    requires { ⌜ shift < 16 ⌝ }
-    ensures { λ r. ⌜ r ≡ min (u / 2 ^ shift - low) most ⌝ }
+// A sixteenth of a sum, shifted down. What it leaves out is shifted out at the top first: so the compiler knows that 15 bits are
+// left, and packs eight of them at once.
+fn shifted(shift: u32, sum: u32) -> u16
+    requires { ⌜ shift < 8 ⌝ }
+    ensures { λ r. ⌜ r ≡ sixteenth sum / 2 ^ shift ⌝ }
 {
-    let h = u >> shift;
-    if h < low {
-        return 0;
-    }
-    let s = h - low;
-    if most < s {
-        return most;
-    }
-    s
+    ((sum << 13) >> (17 + shift)) as u16
 }
 
-pub(crate) fn lower_all(cut: Cut, p: Part, output: &mut [u16])
-    requires { ⌜ (p .from ≤ p .to) × (p .to ≤ length (now output)) ⌝ }
-    ensures { λ _. ⌜ now (output .exit) ≡ painted (between (p .from) (p .to)) (lowered-at cut (now (output .entry))) (now (output .entry)) ⌝ }
+fn less(h: u16, low: u16) -> u16
+    ensures { λ r. ⌜ r ≡ h - low ⌝ }
 {
-    let shift = cut.shift % 16;
+    if h < low { 0 } else { h - low }
+}
+
+fn at_most(most: u16, h: u16) -> u16
+    ensures { λ r. ⌜ r ≡ min h most ⌝ }
+{
+    if most < h { most } else { h }
+}
+
+pub(crate) fn lower(shift: u32, low: u16, most: u16, sum: u32) -> u16
+    requires { ⌜ shift < 8 ⌝ }
+    ensures { λ r. ⌜ r ≡ min (sixteenth sum / 2 ^ shift - low) most ⌝ }
+{
+    at_most(most, less(shifted(shift, sum), low))
+}
+
+// The samples of a part. There is no table and no branch, so that eight are cut at once.
+pub(crate) fn lower_all(cut: Cut, sums: &[u32; PART], output: &mut [u16])
+    ensures { λ _. ⌜ now (output .exit) ≡ painted (below 128) (lowered-at cut (now (sums .entry))) (now (output .entry)) ⌝ }
+{
+    let shift = cut.shift % 8;
     let low = cut.low;
     let most = cut.most;
-    let n = least(p.to, output.len());
-    let mut i = p.from;
+    let n = least(PART, output.len());
+    let mut i = 0;
     while i < n {
-        output[i] = lower(shift, low, most, output[i]);
+        output[i] = lower(shift, low, most, sums[i]);
         i += 1;
     }
 }

@@ -1,6 +1,6 @@
 -- What the private functions ask and give, and nothing that another crate cites.
 use mathlib.Core.Path.{_≡_}
-use Prim.Native.Nat.{ℕ, _+_, _-_, _^_, _<_, _≤_}
+use Prim.Native.Nat.{ℕ, _+_, _-_, _*_, _^_, _<_, _≤_}
 use lib.IntN.{ℤ, pos, natAbs, _-ℤ_, _*ℤ_}
 use lib.Signed.{shrZ}
 use Rattle.standard.specs.Residual.{sign-of, limited, residual}
@@ -28,11 +28,15 @@ limited-by shift most dq = shrZ (limited most dq) (2 ^ shift)
 unfoldable pub raised-by : ℕ → ℕ → ℤ → ℤ → ℕ
 raised-by out shift most dq = raised out (limited-by shift most dq)
 
-pub record CodeGiven (out shift : ℕ) (most dq : ℤ) : Type 0 where
+-- 2 ^ 29 after the division: more than any scaled distance, so that one raised by it is not below 0
+abbrev pub far-of : ℕ → ℕ
+far-of shift = 2 ^ 29 * 2 ^ shift
+
+pub record CodeGiven (out shift most : ℕ) (dq : ℤ) : Type 0 where
   pub out-depth : out ≤ 12
-  pub divided : shift ≤ 32
-  pub limit : natAbs most ≤ 2 ^ 44
-  pub small : natAbs (limited-by shift most dq) ≤ 2 ^ 17
+  pub divided : shift ≤ 27
+  pub limit : most ≤ 2 ^ 17 * 2 ^ shift
+  pub near : natAbs dq ≤ far-of shift
 
 -- what a code comes to
 unfoldable pub raised-code : ℕ → ℕ → ℕ → Nlq → ℕ → ℕ

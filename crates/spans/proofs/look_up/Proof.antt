@@ -4,7 +4,7 @@ use Prim.Native.Nat.{_-_, _*_, _≤_}
 use native.Mathlib.Omega.{arith}
 use Rattle.runs.proofs.Painting.{PaintedFrom, paint-none, paint-more, paint-all}
 use Rattle.spans.specs.inner.Spans.{looked-up}
-use Rattle.spans.proofs.Fours.{paint-eight, paint-from}
+use Rattle.spans.proofs.Fours.{paint-turn, paint-from}
 use Rattle.spans.proofs.look_up.Statement.{statement}
 use Rattle.spans.proofs.look_up.Tie as tie
 
@@ -24,7 +24,7 @@ loop-again : tie.Need-loop-again Inv-loop μ-loop Inv-loop2 μ-loop2
 loop-again c =
     let lp : tie.At-loop Inv-loop μ-loop Inv-loop2 μ-loop2 = search needs in
     let e : tie.After-look-up-eight Inv-loop μ-loop Inv-loop2 μ-loop2 = search needs in
-    (omega arith, paint-eight _ (lp .loop .inv .1) (omega arith) (e .look-up-eight .ensures))
+    (omega arith, paint-turn _ (lp .loop .inv .1) (omega arith) (omega arith) (e .look-up-eight .ensures))
 
 loop2-holds : tie.Need-loop2-holds Inv-loop μ-loop Inv-loop2 μ-loop2
 loop2-holds c = (omega arith, paint-none _ _ _)

@@ -5,25 +5,24 @@ use mathlib.Core.Path.{_≡_, ap, ap₂, _∙_}
 use Prim.Native.Nat.{ℕ, _+_, _-_, _^_, _<_, _≤_}
 use native.Mathlib.Nat.{le-trans, le-of-eq}
 use native.Mathlib.Omega.{arith}
-use lib.IntN.{ℤ, natAbs, _+ℤ_}
+use lib.IntN.{ℤ, pos, natAbs, _+ℤ_}
+use lib.Pow.{pow-mono}
 use mir.Syntax.{w64}
 use mir.Val.{toZ, ofZ}
 use mir.Facts.{toZ-ofZ}
 use Rattle.runs.proofs.Painting.{PaintedFrom, paint-none, paint-more, paint-part}
 use Rattle.words.proofs.Holding.{Holds, result, add-asked}
-use Rattle.standard.specs.Residual.{scaled, limit}
-use Rattle.standard.proofs.Residuals.{residual-le}
-use Rattle.plan.specs.Parameters.{quantization}
-use Rattle.residual.specs.inner.Steps.{growth, limited-by, raised-by, raised-code}
+use Rattle.standard.specs.Residual.{scaled}
+use Rattle.residual.specs.inner.Steps.{far-of, raised-by, raised-code}
 use Rattle.residual.proofs.Words.{within, read-back}
-use Rattle.residual.proofs.Courses.{course, next-course, course-le, code-is, raised-is}
+use Rattle.residual.proofs.Courses.{course, next-course, limit-le, course-le, raised-is}
 use Rattle.residual.proofs.growing.go_on.Statement.{statement}
 use Rattle.residual.proofs.growing.go_on.Tie as tie
 
 -- a course that grows by what a word holds, and what its codes come to
 record Leads (out shift from to most even : ℕ) (course : ℕ → ℤ) (code : ℕ → ℕ) : Type 0 where
   next : (k : ℕ) → course k +ℤ toZ w64 even ≡ course (k + 1)
-  comes : (k : ℕ) → from ≤ k → k < to → raised-by out shift (toZ w64 most) (course k) ≡ code k
+  comes : (k : ℕ) → from ≤ k → k < to → raised-by out shift (pos most) (course k) ≡ code k
 
 abbrev Inv-loop : tie.InvT-loop
 Inv-loop table₀ from to el d out sign shift most even dq₀ e₀ table dq e =
@@ -44,7 +43,7 @@ In = tie.In-loop Inv-loop μ-loop
 abbrev start : Begun → Start
 start c = search needs
 
-abbrev limits : Begun → tie.After-limit-of Inv-loop μ-loop
+abbrev limits : Begun → tie.After-most-of Inv-loop μ-loop
 limits c = search needs
 
 abbrev grows : Begun → tie.After-growth Inv-loop μ-loop
@@ -58,9 +57,6 @@ numbers : (st : Start) → let q = st .args .q in (q .slope ≤ 2 ^ 33) × (q .t
 numbers st = let r = st .pre .0 .ranges in (within (r .slope) (r .fraction), within (r .threshold) (r .fraction))
 
 -- what the calls before the loop gave
-most-is : (c : Begun) → toZ w64 (ofZ w64 (limits c .limit-of .result)) ≡ limit (start c .args .el) (start c .args .q .maximum)
-most-is c = let l = limits c .limit-of in read-back (l .result) (l .ok) ∙ l .ensures .0
-
 even-held : (c : Begun) → Holds (ofZ w64 (grows c .growth .result)) (grows c .growth .result) (2 ^ 44)
 even-held c = let g = grows c .growth in result (g .ok) (g .ensures .1)
 
@@ -77,13 +73,13 @@ begun c =
     read-back (c .scale .result) (c .scale .ok) ∙ c .scale .ensures
     ∙ ap₂ (scaled (a .el) (a .q .slope) (a .q .threshold)) (read-back (d .distance .result) (d .distance .ok) ∙ d .distance .ensures .0) (toZ-ofZ (start c .fits .sign))
 
-leads : (c : Begun) → let a = start c .args in Leads (a .out) (a .d - 5 - a .el) (a .from) (a .to) (ofZ w64 (limits c .limit-of .result)) (ofZ w64 (grows c .growth .result)) (on c) (codes c)
+leads : (c : Begun) → let a = start c .args in Leads (a .out) (a .d - 5 - a .el) (a .from) (a .to) (limits c .most-of .result) (ofZ w64 (grows c .growth .result)) (on c) (codes c)
 leads c =
     let st = start c in
     let a = st .args in
     record {
       next = λ k. ap (λ (z : ℤ). on c k +ℤ z) (even-held c .is ∙ grows c .growth .ensures .0) ∙ next-course (a .el) (a .q) (a .sign) k;
-      comes = λ k x y. ap (λ (m : ℤ). raised-by (a .out) (a .d - 5 - a .el) m (on c k)) (most-is c) ∙ raised-is (a .el) (a .d) (a .q) (a .out) (a .sign) k (st .pre .0 .side k x y);
+      comes = λ k x y. ap (λ (m : ℤ). raised-by (a .out) (a .d - 5 - a .el) m (on c k)) (limits c .most-of .ensures) ∙ raised-is (a .el) (a .d) (a .q) (a .out) (a .sign) k (st .pre .0 .side k x y);
     }
 
 -- in the loop the word holds the scaled distance
@@ -95,14 +91,19 @@ inside il =
     let c = first il in
     (il .before .loop .inv .1 (on c) (codes c) (leads c) (begun c) .0 .from, (omega (arith, il .loop-test), omega (arith, il .loop-test, start c .pre .0 .codes)))
 
-now-held : (il : In) → Holds (il .before .loop .dq) (on (first il) (il .before .loop .e)) (2 ^ 56)
-now-held il =
+near : (il : In) → let st = start (first il) in natAbs (on (first il) (il .before .loop .e)) ≤ far-of (st .args .d - 5 - st .args .el)
+near il =
     let st = start (first il) in
     let a = st .args in
-    record {
-      is = now-on il;
-      le = course-le (a .el) (a .q) (a .sign) (il .before .loop .e) (numbers st .0) (numbers st .1) (st .pre .0 .offset) (st .pre .0 .unit) (omega (arith, inside il .1 .1));
-    }
+    let p = st .pre .0 in
+    course-le (a .el) (a .d) (p .ranges .shallow) (p .ranges .deep) (a .q) (a .sign) (il .before .loop .e) (p .ranges .slope) (p .ranges .threshold) (p .offset) (p .unit) (omega (arith, inside il .1 .1))
+
+-- the division is by at most 2 ^ 27
+divided : (st : Start) → st .args .d - 5 - st .args .el ≤ 27
+divided st = omega (arith, st .pre .0 .ranges .fraction)
+
+now-held : (il : In) → Holds (il .before .loop .dq) (on (first il) (il .before .loop .e)) (2 ^ 56)
+now-held il = record { is = now-on il; le = omega (arith, near il, pow-mono {j = 27} (divided (start (first il)))) }
 
 raised-by-requires : tie.Need-raised-by-requires Inv-loop μ-loop
 raised-by-requires il κs =
@@ -110,16 +111,11 @@ raised-by-requires il κs =
     let st = start c in
     let a = st .args in
     let r = st .pre .0 .ranges in
-    let l = limits c .limit-of in
-    let e = il .before .loop .e in
-    let i = inside il in
     record {
       out-depth = st .pre .0 .out-depth;
-      divided = omega (arith, r .fraction);
-      limit = rw (read-back (l .result) (l .ok)) (l .ensures .1);
-      small =
-          le-trans (le-of-eq (ap natAbs (ap₂ (limited-by (a .d - 5 - a .el)) (most-is c) (now-on il) ∙ code-is (a .el) (a .d) (a .q) (a .sign) e (st .pre .0 .side e (i .0) (i .1 .0)))))
-          (residual-le (a .el) (a .d) (quantization (a .q)) (r .shallow) (r .deep) (r .maximum) e);
+      divided = divided st;
+      limit = le-trans (le-of-eq (ap natAbs (limits c .most-of .ensures))) (limit-le (a .el) (a .d) (r .shallow) (r .deep) (a .q .maximum) (r .maximum));
+      near = rw (now-on il) (near il);
     }
 
 loop-again : tie.Need-loop-again Inv-loop μ-loop
@@ -133,7 +129,7 @@ loop-again c =
       λ course code leads begun.
           let so-far = l .inv .1 course code leads begun in (
             paint-more (so-far .0) (omega (arith, i .1 .1, start f .pre .1))
-                (c .raised-by .ensures ∙ ap (raised-by (a .out) (a .d - 5 - a .el) (toZ w64 (ofZ w64 (limits f .limit-of .result)))) (so-far .1) ∙ leads .comes (l .e) (i .0) (i .1 .0)),
+                (c .raised-by .ensures ∙ ap (raised-by (a .out) (a .d - 5 - a .el) (pos (limits f .most-of .result))) (so-far .1) ∙ leads .comes (l .e) (i .0) (i .1 .0)),
             toZ-ofZ (add-asked (now-held il) (even-held f) tt) ∙ ap (λ (z : ℤ). z +ℤ toZ w64 (ofZ w64 (grows f .growth .result))) (so-far .1) ∙ leads .next (l .e),
           ),
     )

@@ -12,4 +12,4 @@ sum-of-spec =
     (λ c. search needs)
     (λ c. search needs)
     (λ c κs. search needs)
-    (λ c. c .sixteenth-of .ensures))
+    (λ c. c .sum .ensures))

@@ -1,36 +1,29 @@
--- `sums::passes::lower_all` meets its contract: what is ahead of the loop is as it was. Assumes nothing.
-use mathlib.Core.Path.{ap, _∙_}
+-- `sums::passes::lower_all` meets its contract. Assumes nothing.
 use borrow.Author.Needs.{needs}
-use Prim.Native.Nat.{ℕ, _-_, _/_, _%_, _^_, _<_, _≤_, min}
+use Prim.Native.Nat.{_-_, _/_, _^_, _≤_, min}
 use native.Mathlib.Omega.{arith}
-use lib.ListN.{length, getD}
 use Rattle.runs.specs.inner.Loops.{at}
-use Rattle.runs.proofs.Painting.{PaintedFrom, paint-none, paint-more, paint-part, painted-ahead}
-use Rattle.sums.specs.inner.Sums.{lower-by, lowered-at}
+use Rattle.runs.proofs.Painting.{PaintedFrom, paint-none, paint-more, paint-all}
+use Rattle.sums.specs.inner.Sums.{sixteenth, lower-by, lowered-at}
 use Rattle.sums.proofs.passes.lower_all.Statement.{statement}
 use Rattle.sums.proofs.passes.lower_all.Tie as tie
 
 abbrev Inv-loop : tie.InvT-loop
-Inv-loop output₀ shift low most n i₀ output i = (i ≤ n) × PaintedFrom i₀ (λ j. min (at output₀ j / 2 ^ shift - low) most) output₀ i output
+Inv-loop sums output₀ shift low most n i₀ output i = (i ≤ n) × PaintedFrom 0 (λ j. min (sixteenth (at sums j) / 2 ^ shift - low) most) output₀ i output
 
 abbrev μ-loop : tie.MeasureT-loop
-μ-loop output₀ shift low most n i₀ output i = n - i
+μ-loop sums output₀ shift low most n i₀ output i = n - i
 
 loop-again : tie.Need-loop-again Inv-loop μ-loop
 loop-again c =
-    let st : tie.Start Inv-loop μ-loop = search needs in
     let lp : tie.At-loop Inv-loop μ-loop = search needs in
-    let old = st .args .output .now in
-    let i = lp .loop .i in
-    let inside : i < length old = omega arith in
-    let ahead = ap (λ l. getD l i 0) (lp .loop .inv .1 .is) ∙ painted-ahead _ i _ old inside in
-    (omega arith, paint-more (lp .loop .inv .1) inside (c .lower .ensures ∙ ap (λ (x : ℕ). min (x / 2 ^ (st .args .cut .shift % 16) - st .args .cut .low) (st .args .cut .most)) ahead))
+    (omega arith, paint-more (lp .loop .inv .1) (omega arith) (c .lower .ensures))
 
 returns : tie.Need-returns Inv-loop μ-loop
 unfolding lowered-at lower-by
 returns c =
     let lp : tie.At-loop Inv-loop μ-loop = search needs in
-    paint-part _ (lp .loop .inv .1) (omega arith)
+    paint-all _ (lp .loop .inv .1) (omega arith)
 
 pub lower-all-spec : {M : Type 1} → statement M
 lower-all-spec =
