@@ -6,7 +6,8 @@
 #include <stdlib.h>
 #include <string.h>
 
-enum { RUNS = 9 };
+/* what is short, or is held against a limit, has more runs */
+enum { RUNS = 9, MANY_RUNS = 61 };
 
 static uint8_t copy(const Plan *plan, size_t first, size_t count)
 {
@@ -60,13 +61,13 @@ enum { MMR_CLAUSE = PROVED + 1, MMR_WAYS = MMR_CLAUSE + 2 };
 static Way *const mmr_ways[MMR_WAYS] = {copy, proved, by_clause_gcc, by_clause_clang};
 
 /* the medians of the first n of some ways, of which the copy is one, after the others' outputs were compared */
-static void medians(Way *const some[], int n, const Plan *plan, size_t step, double t[n])
+static void medians(Way *const some[], int n, int runs, const Plan *plan, size_t step, double t[n])
 {
-    double times[n][RUNS];
+    double times[n][runs];
     compare(some + PROVED, n - PROVED, plan, step);
-    measure(some, n, RUNS, plan, step, times);
+    measure(some, n, runs, plan, step, times);
     for (int w = 0; w < n; w++)
-        t[w] = median(times[w], RUNS);
+        t[w] = median(times[w], runs);
 }
 
 /* of the two compilers */
@@ -78,7 +79,7 @@ static double better(const double t[2])
 static void against_c(const Plan *plan, size_t step)
 {
     double t[WAYS];
-    medians(ways, WAYS, plan, step, t);
+    medians(ways, WAYS, RUNS, plan, step, t);
     printf("| %.2f | %.2f | %.2f | %.2f | %.2f | %.2f |\n", t[PROVED], better(t + CLAUSE), better(t + TABLES), t[COPY],
            t[PROVED] / better(t + CLAUSE), t[PROVED] / better(t + TABLES));
 }
@@ -86,7 +87,7 @@ static void against_c(const Plan *plan, size_t step)
 static void against_clause(const Plan *plan, size_t step)
 {
     double t[MMR_WAYS];
-    medians(mmr_ways, MMR_WAYS, plan, step, t);
+    medians(mmr_ways, MMR_WAYS, RUNS, plan, step, t);
     printf("| %.2f | %.2f | %.2f |\n", t[PROVED], better(t + MMR_CLAUSE), t[PROVED] / better(t + MMR_CLAUSE));
 }
 
@@ -107,7 +108,7 @@ static void against_lent_c(const Plan *plan, size_t step)
     static int row;
     double t[LENT_WAYS];
     fill_lent(plan);
-    medians(lent_ways, LENT_WAYS, plan, step, t);
+    medians(lent_ways, LENT_WAYS, MANY_RUNS, plan, step, t);
     if (row / KINDS % 3 == 0)
         whole[row % KINDS] = t[PROVED];
     printf("| %.2f | %.2f | %.2f | %.2f | %.2f |\n", t[PROVED], better(t + LENT_C), t[PLAIN],
@@ -145,9 +146,9 @@ static void by_picture(void)
         double plain[CLAUSE], enhanced[CLAUSE];
         fill(half[k][0], half[k][1], 1);
         Plan plan = plan_of(kind, 0);
-        medians(ways, CLAUSE, &plan, pairs, plain);
+        medians(ways, CLAUSE, RUNS, &plan, pairs, plain);
         plan = plan_of(kind, 1);
-        medians(ways, CLAUSE, &plan, pairs, enhanced);
+        medians(ways, CLAUSE, RUNS, &plan, pairs, enhanced);
         printf("| %zu x %zu | %.2f | %.2f | %.2f | %.2f | %.2f |\n", 2 * columns, 2 * pairs, plain[PROVED],
                better(plain + TABLES), enhanced[PROVED], better(enhanced + TABLES), plain[COPY]);
         fflush(stdout);
@@ -178,9 +179,10 @@ int main(void)
            RUNS);
     each_row(1920, 1080, polynomials, POLYNOMIALS, against_c);
     by_picture();
-    printf("\nNanoseconds a sample of a job that is lent a table; 3840 x 2160:\n\n"
+    printf("\nNanoseconds a sample of a job that is lent a table, medians of %d interleaved runs; 3840 x 2160:\n\n"
            "| samples | jobs | pieces | enhancement | proved, lent | C, lent | proved, plain | proved / C, both lent "
-           "| lent / whole picture |\n|---|---|---|---|---|---|---|---|---|\n");
+           "| lent / whole picture |\n|---|---|---|---|---|---|---|---|---|\n",
+           MANY_RUNS);
     each_row(1920, 1080, polynomials, POLYNOMIALS, against_lent_c);
     filling();
     printf("\nNanoseconds a sample where Cb and Cr are mapped by MMR and luma by 8 polynomials; 1920 x 1080:\n\n"

@@ -37,10 +37,9 @@ use Rattle.plan.proofs.Truths.{both}
 use Rattle.mapping.specs.inner.Mapped.{frame-maps, can-map, mapped-table}
 use Rattle.mapping.proofs.Mappable.{pieces-facts, usable-maps}
 use Rattle.mapping.proofs.Meaning.{mapped-found, mapped-le}
-use Rattle.residual.specs.declared.Pair.{Pair}
 use Rattle.residual.specs.inner.Raising.{raised}
 use Rattle.residual.specs.inner.Tables.{residual-table, no-residual, cut-numbers}
-use Rattle.residual.proofs.Meaning.{pair-found, raised-found, residual-small, cut-found}
+use Rattle.residual.proofs.Meaning.{raised-found, residual-small, cut-found}
 use Rattle.spans.specs.inner.Spans.{entry}
 use Rattle.sums.specs.inner.Sums.{cut-of}
 use Rattle.rules.specs.Rules.{extent, used}
@@ -218,9 +217,7 @@ module _ (p : Plan) (r : Rows) (output : List ℕ) (g : InPicture (extent (p .he
     enhanced-both : (enhancement : List ℕ) → CodesInPicture e r (2 ^ el-depth h) enhancement → Picture (λ c. enhanced-at h enhancement (c .nlq)) (enhanced-mixed p r base enhancement output)
     unfolding enhanced-at
     enhanced-both enhancement a =
-        ap (λ (x : Pair). enhanced-plane h r base enhancement (p .y) (luma-plane e) (chroma-after p (r .first) (r .last) (x .first) (x .second) (cut-numbers h) base enhancement output))
-        (pair-found h (p .cb .nlq) (p .cr .nlq) (nlq-of 1 h (p .cb) (cb-usable p ok)) (nlq-of 2 h (p .cr) (cr-usable p ok)))
-        ∙ mixed (enhanced-at h enhancement (p .y .nlq) (luma-mapped p base)) (enhanced-at h enhancement (p .cb .nlq) (cb-mapped p base)) (enhanced-at h enhancement (p .cr .nlq) (cr-mapped p base)) _ _ enhancement (enhanced-plane h r base enhancement (p .y) (luma-plane e)) (enhanced-luma enhancement a) (a .rows)
+        mixed (enhanced-at h enhancement (p .y .nlq) (luma-mapped p base)) (enhanced-at h enhancement (p .cb .nlq) (cb-mapped p base)) (enhanced-at h enhancement (p .cr .nlq) (cr-mapped p base)) _ _ enhancement (enhanced-plane h r base enhancement (p .y) (luma-plane e)) (enhanced-luma enhancement a) (a .rows)
         (λ i t. some-found (p .cb .nlq) (cb-mapped p base i) (at enhancement i) (nlq-of 1 h (p .cb) (cb-usable p ok)) (cb-le i) (in-cb e r _ enhancement a .code i t))
         (λ i t. some-found (p .cr .nlq) (cr-mapped p base i) (at enhancement i) (nlq-of 2 h (p .cr) (cr-usable p ok)) (cr-le i) (in-cr e r _ enhancement a .code i t))
 

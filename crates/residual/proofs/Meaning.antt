@@ -1,16 +1,17 @@
 -- What stands in the three tables. Assumes nothing.
 use mathlib.Core.Path.{_≡_, refl, _∙_}
-use mathlib.Core.Bool.{true, false, _&&_}
+use mathlib.Core.Bool.{Bool, true, false, _&&_, cond}
 use mathlib.Core.List.{List}
-use Prim.Native.Nat.{ℕ, _+_, _-_, _/_, _%_, _<_, _≤_, _^_}
+use Prim.Native.Nat.{ℕ, _+_, _-_, _/_, _%_, _<_, _≤_, _^_, zero-le}
 use native.Mathlib.Nat.{lt-of-lt-of-le, mod-eq-of-lt}
 use native.Mathlib.Omega.{arith}
 use lib.IntN.{ℤ, pos, natAbs}
-use lib.ListN.{length}
+use lib.ListN.{length, replicate}
 use lib.Pow.{pow-mono}
-use Rattle.runs.specs.inner.Loops.{at}
-use Rattle.runs.specs.inner.Tables.{coded}
-use Rattle.runs.proofs.Tables.{at-table, coded-in}
+use Rattle.runs.specs.Runs.{painted}
+use Rattle.runs.specs.inner.Loops.{at, below}
+use Rattle.runs.specs.inner.Tables.{table, coded}
+use Rattle.runs.proofs.Tables.{at-table, coded-in, fill-none, fill-painted, fill-codes, no-codes}
 use Rattle.standard.specs.Residual.{residual, reconstructed}
 use Rattle.standard.proofs.Residuals.{residual-le}
 use Rattle.plan.specs.declared.Header.{Header}
@@ -21,9 +22,25 @@ use Rattle.plan.specs.Rule7.{nlq-fits}
 use Rattle.plan.proofs.Facts.{header-kept, nlq-facts}
 use Rattle.plan.proofs.Truths.{both}
 use Rattle.residual.specs.inner.Raising.{raised, lowered}
+use Rattle.residual.specs.inner.Steps.{raised-code}
 use Rattle.sums.specs.inner.Sums.{lower-by, cut-of}
-use Rattle.residual.specs.inner.Tables.{residual-table, pair, residual-pair, finished-code, finished-table, cut-numbers}
+use Rattle.residual.specs.inner.Tables.{residual-table, finished-code, finished-table, cut-numbers}
 use Rattle.residual.proofs.Raising.{lowered-raised, raised-less}
+
+-- a table of zeros that is filled
+pub residuals-filled : (h : Header) (q : Nlq) {l : List ℕ} → l ≡ cond (header-fits h && nlq-fits h q) (painted (below (2 ^ el-depth h)) (raised-code (hdr-depth h) (el-depth h) (h .d) q) (replicate 1024 0)) (replicate 1024 0) → l ≡ residual-table h q
+unfolding residual-table raised-code
+residuals-filled h q e = e ∙ go (header-fits h && nlq-fits h q) refl
+  where
+    code : ℕ → ℕ
+    code c = raised (hdr-depth h) (residual (el-depth h) (h .d) (quantization q) c)
+
+    go : (u : Bool) → (header-fits h && nlq-fits h q) ≡ u → cond u (painted (below (2 ^ el-depth h)) code (replicate 1024 0)) (replicate 1024 0) ≡ table 1024 (coded u (2 ^ el-depth h) code)
+    go true t =
+        let f = header-kept h (both (header-fits h) _ t .0) in
+        let few : 2 ^ el-depth h ≤ 1024 = pow-mono {j = 10} (omega (arith, f .base-depth, f .same-depth)) in
+        fill-codes code refl refl (fill-painted code (fill-none 1024 code 0 (λ j k. absurd (omega arith))) zero-le few refl (λ j x y. refl)) (λ j. refl)
+    go false t = no-codes 1024 (2 ^ el-depth h) code refl
 
 -- for whoever looks an enhancement sample up
 pub raised-found : (h : Header) (q : Nlq) → (header-fits h && nlq-fits h q) ≡ true → (e : ℕ) → e < 2 ^ el-depth h → at (residual-table h q) (e % 1024) ≡ raised (hdr-depth h) (residual (el-depth h) (h .d) (quantization q) e)
@@ -32,11 +49,6 @@ raised-found h q u e b =
     let f = header-kept h (both (header-fits h) _ u .0) in
     let k : e < 1024 = lt-of-lt-of-le b (pow-mono {j = 10} (omega (arith, f .base-depth, f .same-depth))) in
     rw (mod-eq-of-lt k, at-table 1024 _ e k) (coded-in (2 ^ el-depth h) _ e u b)
-
--- where both quantizations can be computed with, the tables of two are those of each
-pub pair-found : (h : Header) (a b : Nlq) → (header-fits h && nlq-fits h a) ≡ true → (header-fits h && nlq-fits h b) ≡ true → residual-pair h a b ≡ pair (residual-table h a) (residual-table h b)
-unfolding residual-table
-pair-found h a b u v = rw (u, v) refl
 
 -- and what it is
 pub residual-small : (h : Header) (q : Nlq) → (header-fits h && nlq-fits h q) ≡ true → (e : ℕ) → natAbs (residual (el-depth h) (h .d) (quantization q) e) ≤ 2 ^ 17

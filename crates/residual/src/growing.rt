@@ -1,8 +1,8 @@
 // The residuals of the codes on one side of the offset. Before they are limited they grow evenly from code to code, so that the
 // loop has no product.
-use crate::inverse::distance;
-use crate::inverse::scale;
 use crate::rounding::power;
+use crate::scaling::distance;
+use crate::scaling::scale;
 use plan::Nlq;
 ghost use mathlib.Core.Path.{_≡_};
 ghost use Prim.Native.Nat.{_≤_, _/_, _^_, min, max};

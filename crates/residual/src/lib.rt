@@ -1,11 +1,10 @@
 // The residual (5.4.3.2) and the reconstruction (5.4.3.3), as tables of what every code, mapped sample and sum comes to.
 // Each is zeros where the header or the quantization cannot be computed with.
 mod growing; // the residuals of the codes on one side of the offset
-mod inverse; // the inverse quantization of one enhancement layer sample
 mod rounding; // the reconstruction of one HDR sample
+mod scaling; // the scaled distance of a code from the offset
 
 use growing::go_on;
-use inverse::residual_of;
 use plan::Header;
 use plan::Nlq;
 use plan::ranges::header_fits;
@@ -16,63 +15,56 @@ use rule_seven::quantizes;
 use spans::least;
 use sums::Cut;
 ghost use mathlib.Core.Path.{_≡_};
-ghost use Rattle.residual.specs.inner.Tables.{residual-table, no-pair, residual-pair, no-residual, finished-table, cut-numbers};
+ghost use mathlib.Core.Bool.{_&&_, cond};
+ghost use Prim.Native.Nat.{_^_};
+ghost use lib.ListN.{length};
+ghost use Rattle.runs.specs.Runs.{painted};
+ghost use Rattle.runs.specs.inner.Loops.{below};
+ghost use Rattle.plan.specs.Ranges.{el-depth, hdr-depth, header-fits};
+ghost use Rattle.plan.specs.Rule7.{nlq-fits};
+ghost use Rattle.residual.specs.inner.Steps.{raised-code};
+ghost use Rattle.residual.specs.inner.Tables.{residual-table, residual-pair, no-residual, finished-table, cut-numbers};
 
-// The raised residual of each code: those below the offset, that at it, and those above it.
-pub fn residual_table(h: Header, q: Nlq) -> [u32; 1024]
-    ensures { λ r. ⌜ r ≡ residual-table h q ⌝ }
+// The raised residual of each code, in a table: of those below the offset, of that at it, and of those above it. Where they
+// cannot be computed the table stays as it is.
+fn fill_residuals(table: &mut [u32; 1024], h: Header, q: Nlq)
+    requires { ⌜ length (now table) ≡ 1024 ⌝ }
+    ensures { λ _. ⌜ now (table .exit) ≡ cond (header-fits h && nlq-fits h q) (painted (below (2 ^ el-depth h)) (raised-code (hdr-depth h) (el-depth h) (h .d) q) (now (table .entry))) (now (table .entry)) ⌝ }
 {
     if !quantizes(h, q) {
-        return [0u32; 1024];
+        return;
     }
     let el = (h.el as u32) + 8;
     let d = h.d as u32;
     let out = (h.hdr as u32) + 8;
     let codes = power(el) as u16;
-    let mut table = [0u32; 1024];
     let o = q.offset;
-    go_on(&mut table, 0, o, el, d, out, q, -1);
+    go_on(table, 0, o, el, d, out, q, -1);
     table[o as usize] = raise(out, 0);
-    go_on(&mut table, o + 1, codes, el, d, out, q, 1);
+    go_on(table, o + 1, codes, el, d, out, q, 1);
+}
+
+pub fn residual_table(h: Header, q: Nlq) -> [u32; 1024]
+    ensures { λ r. ⌜ r ≡ residual-table h q ⌝ }
+{
+    let mut table = [0u32; 1024];
+    fill_residuals(&mut table, h, q);
     table
 }
 
-// The tables of two quantizations, made at once: for whoever composes two planes together, and so that `residual_table`
-// has one caller, into which the compiler then puts it.
+// The tables of two quantizations, for whoever composes two planes together.
 pub struct Pair {
     pub first: [u32; 1024],
     pub second: [u32; 1024],
 }
 
-fn no_pair() -> Pair
-    ensures { λ r. ⌜ r ≡ no-pair ⌝ }
-{
-    let zeros = [0u32; 1024];
-    Pair {
-        first: zeros,
-        second: zeros,
-    }
-}
-
-// Zeros where one of them cannot be computed with.
 pub fn residual_pair(h: Header, a: Nlq, b: Nlq) -> Pair
     ensures { λ r. ⌜ r ≡ residual-pair h a b ⌝ }
 {
-    if !(quantizes(h, a) & quantizes(h, b)) {
-        return no_pair();
-    }
-    let el = (h.el as u32) + 8;
-    let d = h.d as u32;
-    let out = (h.hdr as u32) + 8;
-    let codes = power(el) as u16;
     let mut first = [0u32; 1024];
+    fill_residuals(&mut first, h, a);
     let mut second = [0u32; 1024];
-    let mut e: u16 = 0;
-    while e < codes {
-        first[e as usize] = raise(out, residual_of(el, d, a, e));
-        second[e as usize] = raise(out, residual_of(el, d, b, e));
-        e += 1;
-    }
+    fill_residuals(&mut second, h, b);
     Pair {
         first: first,
         second: second,

@@ -1,47 +1,20 @@
 -- The residual by its steps, and its size at every depth and d. Assumes nothing.
-use mathlib.Core.Path.{_≡_, refl, sym, ap, subst, _∙_}
+use mathlib.Core.Path.{_≡_, refl, sym, ap, _∙_}
 use mathlib.Core.Bool.{Bool, true, false, cond, true≢false}
 use Prim.Native.Nat.{ℕ, zero, suc, _+_, _-_, _*_, _^_, _<_, _≤_, zero-le, suc-le-suc}
 use native.Mathlib.Nat.{le-refl, le-trans, le-of-eq, mul-comm, mul-le-mul-right, div-le-of-le-mul, div-lt-iff-lt-mul}
 use lib.Pow.{pow-pos, pow-add}
-use borrow.Author.Tests.{ltb-false, le-ltb}
+use borrow.Author.Tests.{ltb-false}
 use native.Mathlib.Omega.{arith}
-use lib.IntN.{ℤ, pos, negsuc, natAbs, negℤ, _+ℤ_, _-ℤ_, _*ℤ_, +ℤ-idl}
+use lib.IntN.{ℤ, pos, negsuc, natAbs, negℤ, _+ℤ_, _-ℤ_, _*ℤ_}
 use lib.Signed.{ltZ, shrZ}
 use Rattle.words.proofs.Bounds.{abs-neg}
 use Rattle.standard.specs.Parameters.{Quantization}
 use Rattle.standard.specs.Residual.{sign-of, scaled, limit, limited, dequantized, unless-zero, residual}
 
--- the sign by the test of rr
-pub sign-below : (z : ℤ) → ltZ z (pos 0) ≡ true → negsuc 0 ≡ sign-of z
-sign-below (pos n) e = absurd (true≢false (sym e ∙ le-ltb n 0 (omega arith)))
-sign-below (negsuc n) e = refl
-
-pub sign-above : (z : ℤ) → ltZ z (pos 0) ≡ false → pos 1 ≡ sign-of z
-sign-above (pos n) e = refl
-sign-above (negsuc n) e = absurd (true≢false e)
-
-pub sign-le : (z : ℤ) → natAbs (sign-of z) ≤ 1
-sign-le (pos n) = le-refl 1
-sign-le (negsuc n) = le-refl 1
-
 -- the scaled distance, by the two powers of two in it
 pub scaled-by : (el S T : ℕ) (rr sign f g : ℤ) → f ≡ pos (2 ^ (10 - el)) → g ≡ pos (2 ^ (10 - el + 1)) → (rr *ℤ pos 2 -ℤ sign) *ℤ f *ℤ pos S +ℤ pos T *ℤ g *ℤ sign ≡ scaled el S T rr sign
 scaled-by el S T rr sign f g e h = rw (e, h)
-
--- the three ways of `limited`
-pub limited-above : (m dq : ℤ) → ltZ m dq ≡ true → m ≡ limited m dq
-limited-above m dq e = rw e
-
-pub limited-below : (m dq : ℤ) → ltZ m dq ≡ false → ltZ dq (pos 0 -ℤ m) ≡ true → pos 0 -ℤ m ≡ limited m dq
-limited-below m dq e h =
-    let k : ltZ dq (negℤ m) ≡ true = subst (λ (z : ℤ). ltZ dq z ≡ true) (+ℤ-idl (negℤ m)) h in
-    +ℤ-idl (negℤ m) ∙ rw (e, k)
-
-pub limited-between : (m dq : ℤ) → ltZ m dq ≡ false → ltZ dq (pos 0 -ℤ m) ≡ false → dq ≡ limited m dq
-limited-between m dq e h =
-    let k : ltZ dq (negℤ m) ≡ false = subst (λ (z : ℤ). ltZ dq z ≡ false) (+ℤ-idl (negℤ m)) h in
-    rw (e, k)
 
 module _ (el d : ℕ) (q : Quantization) where
   -- a distance of 0, and any other

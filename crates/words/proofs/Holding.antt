@@ -6,11 +6,10 @@ use native.Mathlib.Omega.{arith}
 use lib.Pow.{pow-mono}
 use lib.Dec.{T, ltb, ltb→lt}
 use lib.IntN.{ℤ, pos, natAbs, _+ℤ_, _-ℤ_, _*ℤ_}
-use lib.Signed.{mag, shrZ, mag-shr}
+use lib.Signed.{mag, shrZ}
 use mir.Syntax.{w64}
 use mir.Val.{SFits, toZ, ofZ}
 use mir.Facts.{toZ-ofZ, toZ-pos}
-use mir.ValLaws.{sfits-le}
 use Rattle.words.proofs.Bounds.{add-in, sub-in, mul-in, shr-in, fits}
 
 -- the word m reads as x, whose absolute value is at most a
@@ -70,7 +69,3 @@ pub shr : {m : ℕ} {x : ℤ} {a : ℕ} (n : ℕ) → Holds m x a → Small a �
 shr {x = x} {a = a} n h t =
     let k : natAbs (shrZ x n) ≤ a = le-trans (shr-in x n) (h .le) in
     record { is = rw (h .is) (toZ-ofZ (fits (shrZ x n) k (ltb→lt a (2 ^ 63) t))); le = k }
-
--- a shift needs no bound
-pub shr-back : {z : ℤ} (n : ℕ) → SFits w64 z → toZ w64 (ofZ w64 (shrZ (toZ w64 (ofZ w64 z)) n)) ≡ shrZ z n
-shr-back {z} n f = rw (toZ-ofZ f) (toZ-ofZ (sfits-le (mag-shr z n) f))

@@ -22,21 +22,9 @@ residual-table h q =
     table 1024
     (coded (header-fits h && nlq-fits h q) (2 ^ el-depth h) (λ e. raised (hdr-depth h) (residual (el-depth h) (h .d) (quantization q) e)))
 
--- of two quantizations; zeros where one of them cannot be computed with
-abbrev pub pair : List ℕ → List ℕ → Pair
-pair first second = record { first = first; second = second }
-
-abbrev pub no-pair : Pair
-no-pair = pair (replicate 1024 0) (replicate 1024 0)
-
-abbrev pub both-fit : Header → Nlq → Nlq → Bool
-both-fit h a b = (header-fits h && nlq-fits h a) && (header-fits h && nlq-fits h b)
-
-abbrev pub table-of : Header → Nlq → Bool → List ℕ
-table-of h q fit = table 1024 (coded fit (2 ^ el-depth h) (λ e. raised (hdr-depth h) (residual (el-depth h) (h .d) (quantization q) e)))
-
+-- of two quantizations
 abbrev pub residual-pair : Header → Nlq → Nlq → Pair
-residual-pair h a b = pair (table-of h a (both-fit h a b)) (table-of h b (both-fit h a b))
+residual-pair h a b = record { first = residual-table h a; second = residual-table h b }
 
 -- the raised residual of no residual
 unfoldable pub no-residual : Header → List ℕ

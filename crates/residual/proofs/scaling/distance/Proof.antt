@@ -4,8 +4,8 @@ use Prim.Native.Nat.{ℕ, _<_, _^_}
 use native.Mathlib.Nat.{le-of-lt}
 use lib.IntN.{pos}
 use Rattle.words.proofs.Holding.{Holds, number, sub, sub-asked}
-use Rattle.residual.proofs.inverse.distance.Statement.{statement}
-use Rattle.residual.proofs.inverse.distance.Tie as tie
+use Rattle.residual.proofs.scaling.distance.Statement.{statement}
+use Rattle.residual.proofs.scaling.distance.Tie as tie
 
 sample : {n : ℕ} → n < 2 ^ 16 → Holds n (pos n) (2 ^ 16)
 sample h = number (le-of-lt h) tt

@@ -9,8 +9,8 @@ use mir.Val.{ofZ}
 use Rattle.standard.proofs.Residuals.{scaled-by}
 use Rattle.words.proofs.Holding.{Holds, held, number, literal, fit, add, add-asked, sub, sub-asked, mul, mul-asked}
 use Rattle.residual.proofs.Words.{as-power}
-use Rattle.residual.proofs.inverse.scale.Statement.{statement}
-use Rattle.residual.proofs.inverse.scale.Tie as tie
+use Rattle.residual.proofs.scaling.scale.Statement.{statement}
+use Rattle.residual.proofs.scaling.scale.Tie as tie
 
 abbrev st : (c : tie.After-power2) → tie.Start
 st c = c .before .before
