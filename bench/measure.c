@@ -8,13 +8,22 @@
 uint16_t output[MOST];
 uint8_t marks[MOST_PAIRS];
 
+static void job(Way *way, const Plan *plan, size_t first, size_t count)
+{
+    if (way(plan, first, count) != 0) {
+        fprintf(stderr, "bench: a job was refused\n");
+        exit(1);
+    }
+}
+
 static void picture(Way *way, const Plan *plan, size_t step)
 {
-    for (size_t k = 0; k < pairs; k += step)
-        if (way(plan, k, pairs - k < step ? pairs - k : step) != 0) {
-            fprintf(stderr, "bench: a job was refused\n");
-            exit(1);
-        }
+    if (step == AGAIN)
+        for (size_t k = 0; k < pairs; k++)
+            job(way, plan, 0, 1);
+    else
+        for (size_t k = 0; k < pairs; k += step)
+            job(way, plan, k, pairs - k < step ? pairs - k : step);
 }
 
 /* Whether more than half of the chroma samples are within the ends of their range. Where most of them are cut a time

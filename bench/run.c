@@ -116,6 +116,29 @@ static void against_lent_c(const Plan *plan, size_t step)
     row++;
 }
 
+/* One row pair whose samples are in the caches, as they are for a player that has just decoded them: what a job costs
+   beside its samples, against the whole picture of the job that is lent a table. */
+static void near_rows(void)
+{
+    for (int smooth = 1; smooth >= 0; smooth--) {
+        fill(1920, 1080, smooth);
+        for (int enhanced = 0; enhanced < 2; enhanced++)
+            for (int k = 0; k < POLYNOMIALS; k++) {
+                Plan plan = plan_of(&polynomials[k], enhanced);
+                double whole[LENT_WAYS], near[LENT_WAYS], times[LENT_WAYS][RUNS];
+                fill_lent(&plan);
+                medians(lent_ways, LENT_WAYS, RUNS, &plan, pairs, whole);
+                measure(lent_ways, LENT_WAYS, RUNS, &plan, AGAIN, times);
+                for (int w = 0; w < LENT_WAYS; w++)
+                    near[w] = median(times[w], RUNS) / whole[PROVED];
+                printf("| %s | %s | %s | %.2f | %.2f | %.2f | %.2f |\n", smooth ? "smooth" : "random",
+                       polynomials[k].name, enhanced ? "yes" : "no", whole[PROVED], near[PROVED], better(near + LENT_C),
+                       near[PLAIN]);
+                fflush(stdout);
+            }
+    }
+}
+
 /* nanoseconds that a filling takes, which jobs of a night share */
 static void filling(void)
 {
@@ -184,6 +207,11 @@ int main(void)
            "| lent / whole picture |\n|---|---|---|---|---|---|---|---|---|\n",
            MANY_RUNS);
     each_row(1920, 1080, polynomials, POLYNOMIALS, against_lent_c);
+    printf("\nOne row pair that is sent again and again, so that its samples are in the caches, over the time a sample of the "
+           "whole picture, lent; 3840 x 2160:\n\n"
+           "| samples | pieces | enhancement | whole picture, ns | proved, lent | C, lent | proved, plain |\n"
+           "|---|---|---|---|---|---|---|\n");
+    near_rows();
     filling();
     printf("\nNanoseconds a sample where Cb and Cr are mapped by MMR and luma by 8 polynomials; 1920 x 1080:\n\n"
            "| samples | jobs | Cb and Cr | enhancement | proved | clause C | proved / clause C |\n"
