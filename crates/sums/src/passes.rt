@@ -11,7 +11,7 @@ ghost use Prim.Native.Nat.{_+_, _-_, _/_, _^_, _<_, _≤_, min};
 ghost use lib.ListN.{length};
 ghost use Rattle.runs.specs.Runs.{painted, between};
 ghost use Rattle.runs.specs.inner.Loops.{below};
-ghost use Rattle.sums.specs.inner.Sums.{sixteenth, summed, lowered-at};
+ghost use Rattle.sums.specs.inner.Sums.{part-places, sixteenth, summed, lowered-at};
 
 // Four sums, of four samples of each run that are loaded at once. They are stored after all loads.
 fn sum_four(
@@ -22,7 +22,7 @@ fn sum_four(
     i: usize,
     sums: &mut [u32; PART],
 )
-    requires { ⌜ (i + 4 ≤ length (now base)) × (i + 4 ≤ length (now enhancement)) × (i + 4 ≤ 128) × (length (now sums) ≡ 128) ⌝ }
+    requires { ⌜ (i + 4 ≤ length (now base)) × (i + 4 ≤ length (now enhancement)) × (i + 4 ≤ part-places) × (length (now sums) ≡ part-places) ⌝ }
     ensures { λ _. ⌜ now (sums .exit) ≡ painted (between i (i + 4)) (summed (now (mapped .entry)) (now (raised .entry)) (now (base .entry)) (now (enhancement .entry))) (now (sums .entry)) ⌝ }
 {
     let j = i + 4;
@@ -46,7 +46,7 @@ pub(crate) fn sum_up(
     enhancement: &[u16],
     sums: &mut [u32; PART],
 )
-    requires { ⌜ length (now sums) ≡ 128 ⌝ }
+    requires { ⌜ length (now sums) ≡ part-places ⌝ }
     ensures { λ _. ⌜ now (sums .exit) ≡ painted (below (min (length (now (base .entry))) (length (now (enhancement .entry))))) (summed (now (mapped .entry)) (now (raised .entry)) (now (base .entry)) (now (enhancement .entry))) (now (sums .entry)) ⌝ }
 {
     let n = least(least(base.len(), enhancement.len()), PART);
@@ -93,7 +93,7 @@ pub(crate) fn lower(shift: u32, low: u16, most: u16, sum: u32) -> u16
 
 // The samples of a part. There is no table and no branch, so that eight are cut at once.
 pub(crate) fn lower_all(cut: Cut, sums: &[u32; PART], output: &mut [u16])
-    ensures { λ _. ⌜ now (output .exit) ≡ painted (below 128) (lowered-at cut (now (sums .entry))) (now (output .entry)) ⌝ }
+    ensures { λ _. ⌜ now (output .exit) ≡ painted (below part-places) (lowered-at cut (now (sums .entry))) (now (output .entry)) ⌝ }
 {
     let shift = cut.shift % 8;
     let low = cut.low;

@@ -5,13 +5,13 @@ use native.Mathlib.Omega.{arith}
 use borrow.Author.Needs.{needs}
 use lib.ListN.{length}
 use Rattle.runs.proofs.Painting.{PaintedFrom, paint-none, paint-on, paint-all, length-painted}
-use Rattle.sums.specs.inner.Sums.{added-up}
+use Rattle.sums.specs.inner.Sums.{part-places, added-up}
 use Rattle.sums.proofs.Cutting.{in-two-passes}
 use Rattle.sums.proofs.add_up.Statement.{statement}
 use Rattle.sums.proofs.add_up.Tie as tie
 
 abbrev Inv-loop : tie.InvT-loop
-Inv-loop mapped raised cut base enhancement output₀ n sums₀ i₀ output sums i = (i ≤ n) × (length sums ≡ 128) × PaintedFrom i₀ (added-up mapped raised cut base enhancement) output₀ i output
+Inv-loop mapped raised cut base enhancement output₀ n sums₀ i₀ output sums i = (i ≤ n) × (length sums ≡ part-places) × PaintedFrom i₀ (added-up mapped raised cut base enhancement) output₀ i output
 
 abbrev μ-loop : tie.MeasureT-loop
 μ-loop mapped raised cut base enhancement output₀ n sums₀ i₀ output sums i = n - i
