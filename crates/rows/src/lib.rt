@@ -1,4 +1,5 @@
 // Row pairs of one plane, by tables that are made once a call.
+mod adding; // a stretch of samples with residual, part by part
 mod each; // row pair by row pair
 
 use each::add_up_each;

@@ -1,7 +1,5 @@
-// The two passes of adding up a part: its sums by the tables, kept in 32 bits, and a sample cut out of each. A part has at most
-// so many samples as there are places for sums.
+// The two passes of adding up: sums by the tables, kept in 32 bits in a run of their own, and a sample cut out of each.
 use crate::Cut;
-use crate::PART;
 use crate::entries::sum_of;
 use crate::entries::summed;
 use spans::four;
@@ -11,7 +9,7 @@ ghost use Prim.Native.Nat.{_+_, _-_, _/_, _^_, _<_, _≤_, min};
 ghost use lib.ListN.{length};
 ghost use Rattle.runs.specs.Runs.{painted, between};
 ghost use Rattle.runs.specs.inner.Loops.{below};
-ghost use Rattle.sums.specs.inner.Sums.{part-places, sixteenth, summed, lowered-at};
+ghost use Rattle.sums.specs.inner.Sums.{sixteenth, summed, lowered-at};
 
 // Four sums, of four samples of each run that are loaded at once. They are stored after all loads.
 fn sum_four(
@@ -20,9 +18,9 @@ fn sum_four(
     base: &[u16],
     enhancement: &[u16],
     i: usize,
-    sums: &mut [u32; PART],
+    sums: &mut [u32],
 )
-    requires { ⌜ (i + 4 ≤ length (now base)) × (i + 4 ≤ length (now enhancement)) × (i + 4 ≤ part-places) × (length (now sums) ≡ part-places) ⌝ }
+    requires { ⌜ (i + 4 ≤ length (now base)) × (i + 4 ≤ length (now enhancement)) × (i + 4 ≤ length (now sums)) ⌝ }
     ensures { λ _. ⌜ now (sums .exit) ≡ painted (between i (i + 4)) (summed (now (mapped .entry)) (now (raised .entry)) (now (base .entry)) (now (enhancement .entry))) (now (sums .entry)) ⌝ }
 {
     let j = i + 4;
@@ -38,18 +36,17 @@ fn sum_four(
     sums[i + 3] = d;
 }
 
-// The sums of a part, four a turn.
-pub(crate) fn sum_up(
+// The sums of two runs, as far as all three go, four a turn.
+pub fn sum_up(
     mapped: &[u16; 1024],
     raised: &[u32; 1024],
     base: &[u16],
     enhancement: &[u16],
-    sums: &mut [u32; PART],
+    sums: &mut [u32],
 )
-    requires { ⌜ length (now sums) ≡ part-places ⌝ }
     ensures { λ _. ⌜ now (sums .exit) ≡ painted (below (min (length (now (base .entry))) (length (now (enhancement .entry))))) (summed (now (mapped .entry)) (now (raised .entry)) (now (base .entry)) (now (enhancement .entry))) (now (sums .entry)) ⌝ }
 {
-    let n = least(least(base.len(), enhancement.len()), PART);
+    let n = least(least(base.len(), enhancement.len()), sums.len());
     let turns = n / 4;
     let mut t = 0;
     while t < turns {
@@ -91,14 +88,14 @@ pub(crate) fn lower(shift: u32, low: u16, most: u16, sum: u32) -> u16
     at_most(most, less(shifted(shift, sum), low))
 }
 
-// The samples of a part. There is no table and no branch, so that eight are cut at once.
-pub(crate) fn lower_all(cut: Cut, sums: &[u32; PART], output: &mut [u16])
-    ensures { λ _. ⌜ now (output .exit) ≡ painted (below part-places) (lowered-at cut (now (sums .entry))) (now (output .entry)) ⌝ }
+// The sample of each sum. There is no table and no branch, so that eight are cut at once.
+pub fn lower_all(cut: Cut, sums: &[u32], output: &mut [u16])
+    ensures { λ _. ⌜ now (output .exit) ≡ painted (below (length (now (sums .entry)))) (lowered-at cut (now (sums .entry))) (now (output .entry)) ⌝ }
 {
     let shift = cut.shift % 8;
     let low = cut.low;
     let most = cut.most;
-    let n = least(PART, output.len());
+    let n = least(sums.len(), output.len());
     let mut i = 0;
     while i < n {
         output[i] = lower(shift, low, most, sums[i]);

@@ -8,7 +8,8 @@ use Rattle.spans.proofs.joined_six.Reads as joined-six-promise
 use Rattle.spans.proofs.four.Reads as four-promise
 use Rattle.spans.proofs.put_four.Reads as put-four-promise
 use Rattle.spans.proofs.look_up.Reads as look-up-promise
-use Rattle.sums.proofs.add_up.Reads as add-up-promise
+use Rattle.sums.proofs.passes.sum_up.Reads as sum-up-promise
+use Rattle.sums.proofs.passes.lower_all.Reads as lower-all-promise
 use Rattle.sums.proofs.cut_out.Reads as cut-out-promise
 use Rattle.steps.proofs.pivots_of.Reads as pivots-of-promise
 use Rattle.steps.proofs.piece_of.Reads as piece-of-promise
@@ -73,7 +74,8 @@ pub record LeavesSettled : Type 0 where
   pub four : OneAnswer four-promise.Post
   pub four-put : OneContent put-four-promise.Post (λ c. now (c .left .1 .0))
   pub looked-up-output : OneContent look-up-promise.Post (λ c. now (c .left .1 .1 .0))
-  pub added-up-output : OneContent add-up-promise.Post (λ c. now (c .left .1 .1 .1 .1 .1 .0))
+  pub summed : OneContent sum-up-promise.Post (λ c. now (c .left .1 .1 .1 .1 .0))
+  pub lowered-output : OneContent lower-all-promise.Post (λ c. now (c .left .1 .1 .0))
   pub cut-out : OneAnswer cut-out-promise.Post
   pub looked-up-rows : OneContent look-up-rows-promise.Post (λ c. now (c .left .1 .1 .1 .1 .0))
   pub added-up-rows : OneContent add-up-rows-promise.Post (λ c. now (c .left .1 .1 .1 .1 .1 .1 .1 .0))

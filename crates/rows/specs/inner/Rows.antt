@@ -11,6 +11,10 @@ use Rattle.picture.specs.declared.Plane.{Plane}
 use Rattle.picture.specs.inner.Planes.{in-rows, lies, InPlane}
 use Rattle.rows.specs.declared.Rows.{Rows}
 
+-- how many sums are kept from the first pass to the second: PART in the code
+abbrev pub part-places : ℕ
+part-places = 128
+
 -- row pairs of a plane that lie in a run
 abbrev pub RowsIn : Plane → Rows → List ℕ → Type 0
 RowsIn p r run = InPlane p (r .first) (r .last) (length run)

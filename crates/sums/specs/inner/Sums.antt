@@ -5,10 +5,6 @@ use Rattle.runs.specs.inner.Loops.{at}
 use Rattle.spans.specs.inner.Spans.{entry}
 use Rattle.sums.specs.declared.Cut.{Cut}
 
--- how many sums are kept from the first pass to the second: PART in the code
-abbrev pub part-places : ℕ
-part-places = 128
-
 -- a sixteenth of a sum, in 15 bits
 abbrev pub sixteenth : ℕ → ℕ
 sixteenth sum = sum / 16 % 32768

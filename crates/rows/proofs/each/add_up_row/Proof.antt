@@ -8,7 +8,7 @@ returns : tie.Need-returns
 returns c =
     let s : tie.Start = search needs in
     let l : tie.After-add-up = search needs in
-    added-up-row (s .args .p) (s .args .k) _ _ _ (s .pre .0) (s .pre .1 .1) _ _ _ _ (s .pre .1 .0) (l .add-up .ensures)
+    (added-up-row (s .args .p) (s .args .k) _ _ _ (s .pre .0 .0) (s .pre .0 .1 .1) _ _ _ _ (s .pre .0 .1 .0) (l .add-up .ensures .0), l .add-up .ensures .1)
 
 pub add-up-row-spec : {M : Type 1} → statement M
 add-up-row-spec =

@@ -4,6 +4,7 @@ use mathlib.Core.List.{List}
 use borrow.Author.Needs.{needs}
 use Prim.Native.Nat.{ℕ, _+_, _%_, _^_}
 use native.Mathlib.Omega.{arith}
+use lib.ListN.{length-set}
 use Rattle.runs.specs.inner.Loops.{at}
 use Rattle.runs.proofs.Painting.{paint-none, paint-four, paint-part}
 use Rattle.spans.proofs.Fours.{given-at}
@@ -61,11 +62,12 @@ sum-four-spec =
     (λ c. search needs)
     (λ c. search needs)
     (λ c. search needs)
+    (λ c. let s : tie.Start = search needs in rw length-set (omega (arith, s .pre .2)))
     (λ c. search needs)
     (λ c. search needs)
+    (λ c. let s : tie.Start = search needs in rw (length-set, length-set) (omega (arith, s .pre .2)))
     (λ c. search needs)
     (λ c. search needs)
-    (λ c. search needs)
-    (λ c. search needs)
+    (λ c. let s : tie.Start = search needs in rw (length-set, length-set, length-set) (omega (arith, s .pre .2)))
     (λ c. search needs)
     returns)

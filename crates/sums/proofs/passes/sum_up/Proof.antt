@@ -49,7 +49,7 @@ sum-up-spec =
     (λ c κs. search needs)
     (λ c. (omega arith, paint-begun _ _ _ _ (omega arith)))
     (λ c. omega arith)
-    (λ c κs. (omega arith, omega arith, omega arith, omega arith))
+    (λ c κs. (omega arith, omega arith, omega arith))
     (λ c. omega arith)
     (λ c. omega arith)
     loop-again
@@ -61,4 +61,5 @@ sum-up-spec =
     (λ c. omega arith)
     (λ c. omega arith)
     loop2-again
+    (λ c. search needs)
     returns)

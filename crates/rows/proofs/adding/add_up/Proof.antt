@@ -1,20 +1,21 @@
--- `sums::add_up` meets its contract: the parts so far are painted, each summed and then lowered. Assumes nothing.
+-- `rows::adding::add_up` meets its contract: the parts so far are painted, each summed and then lowered. Assumes nothing.
 use Prim.Native.Nat.{_-_, _≤_}
 use mathlib.Core.Path.{_≡_, ap, _∙_}
 use native.Mathlib.Omega.{arith}
 use borrow.Author.Needs.{needs}
 use lib.ListN.{length}
 use Rattle.runs.proofs.Painting.{PaintedFrom, paint-none, paint-on, paint-all, length-painted}
-use Rattle.sums.specs.inner.Sums.{part-places, added-up}
-use Rattle.sums.proofs.Cutting.{in-two-passes}
-use Rattle.sums.proofs.add_up.Statement.{statement}
-use Rattle.sums.proofs.add_up.Tie as tie
+use Rattle.sums.specs.inner.Sums.{added-up}
+use Rattle.rows.specs.inner.Rows.{part-places}
+use Rattle.rows.proofs.Parts.{in-two-passes}
+use Rattle.rows.proofs.adding.add_up.Statement.{statement}
+use Rattle.rows.proofs.adding.add_up.Tie as tie
 
 abbrev Inv-loop : tie.InvT-loop
-Inv-loop mapped raised cut base enhancement output₀ n sums₀ i₀ output sums i = (i ≤ n) × (length sums ≡ part-places) × PaintedFrom i₀ (added-up mapped raised cut base enhancement) output₀ i output
+Inv-loop mapped raised cut base enhancement sums₀ output₀ n i₀ sums output i = (i ≤ n) × (length sums ≡ part-places) × PaintedFrom i₀ (added-up mapped raised cut base enhancement) output₀ i output
 
 abbrev μ-loop : tie.MeasureT-loop
-μ-loop mapped raised cut base enhancement output₀ n sums₀ i₀ output sums i = n - i
+μ-loop mapped raised cut base enhancement sums₀ output₀ n i₀ sums output i = n - i
 
 loop-again : tie.Need-loop-again Inv-loop μ-loop
 loop-again c =
@@ -26,7 +27,7 @@ loop-again c =
 returns : tie.Need-returns Inv-loop μ-loop
 returns c =
     let lp : tie.At-loop Inv-loop μ-loop = search needs in
-    paint-all _ (lp .loop .inv .2) (omega arith)
+    (paint-all _ (lp .loop .inv .2) (omega arith), lp .loop .inv .1)
 
 pub add-up-spec : {M : Type 1} → statement M
 add-up-spec =
