@@ -61,6 +61,6 @@ harness() {
   name=$1
   shift
   for part in "$@"; do objcopy --set-section-alignment '.text*=4096' "$part"; done
-  gcc -O2 $warnings $limits bench/picture.c bench/measure.c bench/rows.c bench/blocks.c "bench/$name.c" "$@" \
+  gcc -O2 $warnings $limits bench/picture.c bench/measure.c bench/rows.c bench/blocks.c bench/late.c "bench/$name.c" "$@" \
     -o "$out/$name"
 }

@@ -1,6 +1,7 @@
 /* What `run` runs: the proved code against clause-by-clause C, C with tables, and memcpy, the proved table job against
    C that is lent the same table, and the proved writer against C. Prints tables in Markdown: nanoseconds a sample or a block, and ratios. Exits 1 where outputs differ. */
 #include "blocks.h"
+#include "late.h"
 #include "rows.h"
 #include <stdio.h>
 #include <stdlib.h>
@@ -217,6 +218,7 @@ int main(void)
            "| samples | jobs | Cb and Cr | enhancement | proved | clause C | proved / clause C |\n"
            "|---|---|---|---|---|---|---|\n");
     each_row(960, 540, mmrs, MMRS, against_clause);
+    late_rows(2 * RUNS + 1);
     printf("\nNanoseconds a block that is written, medians of %d interleaved runs:\n\n"
            "| block | version | bytes | proved | C | proved / C |\n|---|---|---|---|---|---|\n",
            RUNS);

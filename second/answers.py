@@ -200,16 +200,16 @@ def fnv_1a(data):
     return total
 
 
-def night_answers(data):
-    """The lines of all nights: opening, jobs, output run, marks."""
+def night_answers(data, by=nights):
+    """The lines of all nights: opening, jobs, output run, marks; `by` has the job's call, row_job."""
     stream = Stream(data)
     lines = []
     while stream.more():
-        lines += _night_answer(stream)
+        lines += _night_answer(stream, by)
     return lines
 
 
-def _night_answer(stream):
+def _night_answer(stream, by):
     plans = [_valid_plan(stream), Plan()]
     runs = [stream.samples() for _ in range(stream.u8())]
     marks = bytearray(stream.bytes(stream.u16()))
@@ -222,9 +222,8 @@ def _night_answer(stream):
         open_ticket, ticket = stream.u32(), stream.u32()
         first, count = stream.u16(), stream.u16()
         base, enhancement = runs[stream.u8()], _enhancement(runs, stream.u8())
-        number, left = nights.row_job(plan, open_ticket, ticket, first, count, base,
-                                      enhancement, output, marks)
-        lines.append(job_line(number, left))
+        lines.append(job_line(*by.row_job(plan, open_ticket, ticket, first, count, base,
+                                          enhancement, output, marks)))
     return lines + [decimal(output), decimal(marks)]
 
 
@@ -315,10 +314,10 @@ def _enhancement(runs, place):
     return [] if place == NO_RUN else runs[place]
 
 
-def job_line(number, left):
+def job_line(number, counted):
     if number != 0:
         return "refused %d" % number
-    return "complete" if left == 0 else "left %d" % left
+    return "%s, base only %d" % ("complete" if counted.complete else "left %d" % counted.left, counted.base_only)
 
 
 def main():

@@ -25,7 +25,7 @@ FILES = compose_cases.all_cases(SOURCES)[0]                 # the gate's files, 
 BLOCK, BASE, ENHANCEMENT = FILES["small.block"], FILES["small.yuv"], FILES["small_enhancement.yuv"]
 ROOM = {"block": BLOCK, "base.yuv": BASE, "enhancement.yuv": ENHANCEMENT}       # in every folder
 
-USE_COMPOSE = "use: compose [--standby] BLOCK BASE ENHANCEMENT OUTPUT   (compose --help says more)"
+USE_COMPOSE = "use: compose [--standby | --late] BLOCK BASE ENHANCEMENT OUTPUT   (compose --help says more)"
 USE_INSPECT = ("use: inspect BLOCK... | inspect --plot OUT.svg BLOCK | inspect --rules"
                "   (inspect --help says more)")
 USE_AUTHOR = "use: author TEXT BLOCK | author --text BLOCK   (author --help says more)"
@@ -66,6 +66,13 @@ def composed(block_data, base, enhancement=None):
         night.compose()
         out += compose_cases.raw(night.output)
     return out
+
+
+def composed_late(block_data, base, enhancement=None):
+    """Each picture twice: without the enhancement, and with it."""
+    size = 2 * block.read(block_data)[1].picture_samples
+    runs = composed(block_data, base), composed(block_data, base, enhancement)
+    return b"".join(run[at:at + size] for at in range(0, len(base), size) for run in runs)
 
 
 def compose(*names, **wanted):
@@ -109,7 +116,15 @@ def use_cases():
              ["block", "base.yuv", "none", "out.yuv", "more"], ["block", "base.yuv", "none", "out.yuv", "--standby"],
              ["--fast", "block", "base.yuv", "none", "out.yuv"], ["-s", "block", "base.yuv", "none", "out.yuv"],
              ["--standby", "--standby", "block", "base.yuv", "none", "out.yuv"], ["--"],
-             ["--", "block", "base.yuv", "out.yuv"], ["-block", "base.yuv", "none", "out.yuv"]]
+             ["--", "block", "base.yuv", "out.yuv"], ["-block", "base.yuv", "none", "out.yuv"],
+             ["--late"], ["--late", "block", "base.yuv", "none"], ["--late", "--"],
+             ["--late", "block", "base.yuv", "none", "out.yuv", "more"],
+             ["block", "base.yuv", "none", "out.yuv", "--late"],
+             ["--standby", "--late", "block", "base.yuv", "none", "out.yuv"],
+             ["--late", "--standby", "block", "base.yuv", "none", "out.yuv"],
+             ["--late", "--late", "block", "base.yuv", "none", "out.yuv"],
+             ["--standby", "--late", "base.yuv", "none", "out.yuv"],
+             ["--later", "block", "base.yuv", "none", "out.yuv"]]
     return [compose(*names, status=2, line=USE_COMPOSE) for names in wrong] + [
         compose("--help", said="./compose --standby crates/compose_file/data/block "
                                "crates/compose_file/data/base.yuv none hdr.yuv\n")]
@@ -154,6 +169,47 @@ def good_cases():
              add={"folder/x": b""}),
         good(["/dev/stdin", "base.yuv", "none", "out.yuv"], "out.yuv", plain,
              before=["sh", "-c", 'exec "$@" <block', "sh"]),
+    ]
+
+
+def late_cases():
+    """--late: twice as many pictures, and every job is said; a file may have that name."""
+    late, plain = composed_late(BLOCK, BASE, ENHANCEMENT), composed(BLOCK, BASE)
+    flag, mmr, two = ({name: FILES[name + ".block"]} for name in ("flag", "mmr", "version_two"))
+    pair = {"two.yuv": FILES["two.yuv"]}
+    bad_one = {"large_cr.yuv": FILES["large_cr.yuv"]}
+    return [
+        good(["--late", "block", "base.yuv", "enhancement.yuv", "out.yuv"], "out.yuv", late, 2),
+        good(["--late", "--", "block", "base.yuv", "enhancement.yuv", "out.yuv"], "out.yuv", late, 2),
+        good(["--late", "block", "base.yuv", "none", "out.yuv"], "out.yuv", plain + plain, 2),
+        good(["--late", "flag", "base.yuv", "missing.yuv", "out.yuv"], "out.yuv", plain + plain, 2, add=flag),
+        good(["--late", "block", "two.yuv", "two.yuv", "out.yuv"], "out.yuv",
+             composed_late(BLOCK, pair["two.yuv"], pair["two.yuv"]), 4, add=pair),
+        good(["--late", "mmr", "base.yuv", "enhancement.yuv", "out.yuv"], "out.yuv",
+             composed_late(mmr["mmr"], BASE, ENHANCEMENT), 2, add=mmr),
+        good(["--late", "version_two", "base.yuv", "enhancement.yuv", "out.yuv"], "out.yuv",
+             composed_late(two["version_two"], BASE, ENHANCEMENT), 2, add=two),
+        good(["--late", "block", "base.yuv", "enhancement.yuv", "base.yuv"], "base.yuv", late, 2),
+        good(["--late", "block", "base.yuv", "none", "--late"], "--late", plain + plain, 2),
+        good(["--", "--late", "base.yuv", "none", "out.yuv"], "out.yuv", plain, add={"--late": BLOCK}),
+        good(["--late", "--", "--late", "base.yuv", "enhancement.yuv", "out.yuv"], "out.yuv", late, 2,
+             add={"--late": BLOCK}),
+        good(["--late", "--", "--standby", "base.yuv", "none", "out.yuv"], "out.yuv", plain + plain, 2,
+             add={"--standby": BLOCK}),
+        good(["--standby", "--", "--late", "base.yuv", "none", "out.yuv"], "out.yuv", plain, add={"--late": BLOCK}),
+        bad(["--", "--late", "base.yuv", "none", "out.yuv"], "./--late: cannot be read: no such file or folder"),
+        bad(["--late", "block", "base.yuv", "large_cr.yuv", "out.yuv"],
+            words.refused("large_cr.yuv", 11, "picture 0, Cr row 8 column 3 is 4096, allowed less than 1024"),
+            add=bad_one),
+        bad(["--late", "block", "large_cr.yuv", "enhancement.yuv", "out.yuv"],
+            words.refused("large_cr.yuv", 11, "picture 0, Cr row 8 column 3 is 4096, allowed less than 1024"),
+            add=bad_one),
+        bad(["--late", "block", "missing", "none", "out.yuv"], "missing: cannot be read: no such file or folder"),
+        bad(["--late", "block", "base.yuv", "none", "out.yuv"], words.unwritten("out.yuv", 17),
+            add={"out.yuv.part": b"half a picture"}),
+        # 1,024 bytes or 2,048, by the shell: two pictures have 3,456
+        bad(["--late", "block", "base.yuv", "none", "out.yuv"], "out.yuv: cannot be written: error 27",
+            before=["sh", "-c", 'ulimit -f 2; exec "$@"', "sh"]),
     ]
 
 
@@ -463,6 +519,6 @@ def author_stopped_cases():
 
 
 def all_cases():
-    return (use_cases() + good_cases() + link_cases() + output_cases() + refused_block_cases()
+    return (use_cases() + good_cases() + late_cases() + link_cases() + output_cases() + refused_block_cases()
             + refused_picture_cases() + unread_cases() + stopped_cases() + inspect_cases() + plot_cases()
             + author_use_cases() + author_good_cases() + author_bad_cases() + author_stopped_cases())

@@ -1,7 +1,7 @@
 """The gate's run of compose_file: its word list in groups of four, and the files that the words name.
 
-The first word is --standby, so every group says its jobs, and its pictures are small.  What a group is to show
-stands with it; `checked` stops where it shows another.
+The first word is --standby, so every group says its jobs, and its pictures are small.  Before some groups stands
+--late.  What a group is to show stands with it; `checked` stops where it shows another.
 """
 
 import struct
@@ -12,10 +12,10 @@ import limits
 from sample_cases import meets_last_piece, set_piece, tells_last_piece
 
 # `shows` stands in the line that says why nothing is written; it is None where the group is written.
-Group = namedtuple("Group", "block base enhancement output shows")
+Group = namedtuple("Group", "block base enhancement output shows late", defaults=[False])
 
 SOURCES = ["block", "base.yuv", "enhancement.yuv"]      # the example, which example/make.py made
-LEFT_OVER = "left_over"                                 # a last word that belongs to no group
+LEFT_OVER = ["--late", "words", "left", "over"]         # the last words, which are one too few for a group
 WIDTH, HEIGHT = 16, 36                                  # of the small pictures: 18 row pairs
 CHROMA = WIDTH * HEIGHT // 4
 OUT = "out.yuv"
@@ -151,6 +151,7 @@ def picture_files():
         "eight_bit.yuv": raw([s // 4 for s in small]),
         "in_place.yuv": raw(other),
         "mmr_place.yuv": raw(other),
+        "late_place.yuv": raw(other),
         "two.yuv": raw(small + other),
         "wide.yuv": raw(wide),
         "tiny.yuv": raw(small[:6]),
@@ -193,6 +194,40 @@ def written_groups():
         Group("mmr.block", "mmr_place.yuv", "none", "mmr_place.yuv", None),
         Group("small.block", "in_place.yuv", "none", "in_place.yuv", None),
         Group("small.block", "in_place.yuv", "none", OUT, "refused 11 (sample): picture 0, Y row 0"),
+    ]
+
+
+def late_groups():
+    """The enhancement comes late; the base of each picture is composed before."""
+    def late(*names, shows=None):
+        return Group(*names, shows, True)
+    return [
+        late(*SOURCES, "late.yuv"),
+        late("small.block", "small.yuv", "small_enhancement.yuv", "late_small.yuv"),
+        late("small.block", "small.yuv", "none", "late_small.yuv"),     # takes the place of the one before
+        late("small.block", "two.yuv", "two.yuv", "late_two.yuv"),
+        late("flag.block", "small.yuv", "missing.yuv", "late_flag.yuv"),
+        late("flag.block", "two.yuv", "none", "late_flag.yuv"),
+        late("eight_bit.block", "eight_bit.yuv", "eight_bit.yuv", "late_eight_bit.yuv"),
+        late("version_two.block", "two.yuv", "two.yuv", "late_version_two.yuv"),
+        late("mmr.block", "small.yuv", "small_enhancement.yuv", "late_mmr.yuv"),
+        late("mmr_two.block", "two.yuv", "none", "late_mmr_two.yuv"),
+        late("wide.block", "wide.yuv", "wide.yuv", "late_wide.yuv"),    # two bands, each in both pictures
+        late("tiny.block", "tiny.yuv", "tiny.yuv", "late_tiny.yuv"),
+        late("small.block", "late_place.yuv", "small.yuv", "late_place.yuv"),
+        # what the base has is found before the enhancement comes, and what that has by the job that brings it
+        late("small.block", "large_cr.yuv", "large_y.yuv", OUT,
+             shows="large_cr.yuv: refused 11 (sample): picture 0, Cr row 8 column 3"),
+        late("small.block", "large_all.yuv", "none", OUT, shows="large_all.yuv: refused 11 (sample): picture 0, Cb"),
+        late("small.block", "small.yuv", "large_y.yuv", OUT, shows="large_y.yuv: refused 11 (sample): picture 0, Y"),
+        late("small.block", "small.yuv", "large_cr.yuv", OUT, shows="picture 0, Cr row 8 column 3 is 4096"),
+        late("small.block", "small.yuv", "large_cb.yuv", OUT, shows="picture 0, Cb row 17 column 7 is 65535"),
+        late("small.block", "two.yuv", "large_later.yuv", OUT, shows="picture 1, Y row 35 column 15 is 2048"),
+        late("small.block", "short.yuv", "none", OUT, shows="short.yuv: refused 9 (run): 1727 bytes"),
+        late("--late", "small.yuv", "none", OUT, shows="--late: cannot be read: no such file or folder"),
+        late("profile.block", "small.yuv", "none", OUT, shows="refused 4 ("),
+        late("small.block", "small.yuv", "none", "taken.yuv", shows="taken.yuv.part is in the way"),
+        Group("small.block", "small.yuv", "none", OUT, None),           # it holds for its own group only
     ]
 
 
@@ -267,13 +302,14 @@ def all_cases(sources):
     groups += [Group(name, "base.yuv", "none", OUT, "refused %d (" % number)
                for name, (_, number) in refused.items()]
     groups += [Group("empty", "base.yuv", "none", OUT, "empty: refused 1 (short): 0 bytes")]
-    groups += unread_groups() + length_groups() + sample_groups() + unwritten_groups()
+    groups += unread_groups() + length_groups() + sample_groups() + unwritten_groups() + late_groups()
     return files, groups
 
 
 def word_list(groups):
     """The gate's word list."""
-    return ["--standby"] + [word for group in groups for word in group[:4]] + [LEFT_OVER]
+    given = [word for group in groups for word in ["--late"] * group.late + list(group[:4])]
+    return ["--standby"] + given + LEFT_OVER
 
 
 def answers(lines):
@@ -288,11 +324,12 @@ def answers(lines):
 
 
 def checked(groups, lines):
-    """Stops where a group does not show what it was made for; the last answer is about the left-over word."""
+    """Stops where a group does not show what it was made for; the last answer is about the words left over."""
     found = answers(lines)
     assert len(found) == len(groups) + 1
-    assert found.pop() == ["use: compose_file [--standby] BLOCK BASE ENHANCEMENT OUTPUT ...", "not written"]
+    assert found.pop() == ["use: compose_file [--standby] [--late] BLOCK BASE ENHANCEMENT OUTPUT ...", "not written"]
     for group, answer in zip(groups, found):
+        assert group.late or "the enhancement is late" not in answer, group
         if group.shows is None:
             assert answer[-1] == "written", (group, answer)
         else:

@@ -314,7 +314,12 @@ def enhancement_used(plan, enhancement):
 
 
 def compose_row_pairs(plan, first, count, base, enhancement, output, mapping=map_place):
-    """Clause 5.4 for row pairs first .. first+count-1.
+    """Clause 5.4 for row pairs first .. first+count-1."""
+    return compose_chosen(plan, range(first, first + count), base, enhancement, output, mapping)
+
+
+def compose_chosen(plan, row_pairs, base, enhancement, output, mapping=map_place):
+    """Clause 5.4 for these row pairs.
 
     Gives a new output run; all other samples are those of output.  `mapping` is
     clause 5.4.2, or a wrong one that the vectors have to tell from it.
@@ -322,7 +327,7 @@ def compose_row_pairs(plan, first, count, base, enhancement, output, mapping=map
     pivot_value = assign_pivot_values(plan.pred_pivot_value, plan.num_pivots_minus2)
     disable_residual_flag = 0 if enhancement_used(plan, enhancement) else 1
     composed = list(output)
-    for k in range(first, first + count):
+    for k in row_pairs:
         for cmp, at in row_pair_samples(plan, k):
             v = mapping(plan, pivot_value, base, cmp, at)
             r = 0

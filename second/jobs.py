@@ -6,8 +6,12 @@ from composer import compose_row_pairs, enhancement_used, map_place, row_pair_sa
 from limits import PIECE_PLACES
 
 
+# The order in which the rules of a job are tested, here and nowhere else.
+ORDER = (7, 8, 9, 10, 11)
+
+
 def job(plan, first, count, base, enhancement, output, mapping=map_place):
-    """A job with equal tickets and with marks of the right length.
+    """A job with equal tickets and with marks of the right length, all of them 0: it composes all that it names.
 
     Give (0, the new output run), or (7, 9, 10 or 11, None).
     """
@@ -18,19 +22,23 @@ def job(plan, first, count, base, enhancement, output, mapping=map_place):
     return 0, compose_row_pairs(plan, first, count, base, enhancement, output, mapping)
 
 
-def refusal(plan, open_ticket, ticket, first, count, base, enhancement, output, marks):
-    """The first rule that is broken, in the order of the house rules, or 0."""
-    if breaks_rule_7(plan):
-        return 7
-    if breaks_rule_8(open_ticket, ticket):
-        return 8
-    if breaks_rule_9(plan, base, enhancement, output, marks):
-        return 9
-    if breaks_rule_10(plan, first, count):
-        return 10
-    if breaks_rule_11(plan, first, count, base, enhancement):
-        return 11
-    return 0
+def refusal(*given):
+    """The first rule that is broken, in the order of the house rules, or 0; given is what `rules` is given."""
+    return first_met(ORDER, rules(*given))
+
+
+def first_met(order, rules):
+    """The first rule of this order that is met, or 0; those after it are not asked, as they lean on it."""
+    return next((number for number in order if rules[number]()), 0)
+
+
+def rules(plan, open_ticket, ticket, first, count, base, enhancement, output, marks):
+    """What each rule of a job asks; of the marks their number alone, so that none asks what a job will keep."""
+    return {7: lambda: breaks_rule_7(plan),
+            8: lambda: breaks_rule_8(open_ticket, ticket),
+            9: lambda: breaks_rule_9(plan, base, enhancement, output, marks),
+            10: lambda: breaks_rule_10(plan, first, count),
+            11: lambda: breaks_rule_11(plan, first, count, base, enhancement)}
 
 
 def breaks_rule_7(plan):

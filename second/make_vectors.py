@@ -207,9 +207,9 @@ def ten_lines_files(outdir):
     base, output, marks = [512] * 24, [0] * 24, [9] * 2
     nights.open_picture(plan, ticket, marks)
     for first in (0, 0, 1):
-        _, left = nights.row_job(plan, ticket, ticket, first, 1, base, [], output, marks)
+        _, counted = nights.row_job(plan, ticket, ticket, first, 1, base, [], output, marks)
     return {os.path.join("ten_lines", "stdin"): data,
-            os.path.join("ten_lines", "stdout"): b"complete\n" if left == 0 else b""}
+            os.path.join("ten_lines", "stdout"): b"complete\n" if counted.complete else b""}
 
 
 def all_samples():
@@ -325,7 +325,11 @@ def author_summary(said):
 
 
 def night_answer_of(line):
-    return line if line.startswith("refused") else line.split()[0]
+    """The line without its numbers, but for a refusal's; of a job also whether some row pairs are base only."""
+    if line.startswith("refused"):
+        return line
+    first, *rest = line.split(", base only ")
+    return first.split()[0] + (" with base only" if rest not in ([], ["0"]) else "")
 
 
 def answer_of(line):

@@ -4,6 +4,11 @@ A night is one opening and its jobs, all on one memory.  A job that is to be
 refused brings other samples than the accepted ones, and most nights leave row
 pairs that no accepted job names: a refused job that writes is then seen in the
 output run, and one that marks is seen in the marks and in the rows left.
+
+In late nights the enhancement comes late: jobs that do not bring it stand before,
+between and after those that do.  SHOWS says which wrong programs each kind of
+them tells from the right one; selftest.py builds them (wrong_nights.py) and holds
+the nights to it.
 """
 
 from collections import namedtuple
@@ -28,6 +33,38 @@ TICKETS = 1 << 32
 
 # The places of the runs that every stock has.
 BASE, ENHANCEMENT, OTHER, BAD, MISFIT, WILD = range(6)
+
+KEEPING = ("base only overwrites full row pairs", "base only overwrites full samples", "base only overwrites full luma",
+           "base only overwrites full chroma", "full row pairs kept and marked 2", "full row pairs kept and marked 0")
+IN_PART = ("the first row pair decides", "the last row pair decides", "all kept where one is full",
+           "kept only where all are full", "ends at the first full row pair")
+FULL_JOBS = ("full skips mark 2", "full skips mark 2 and marks it 1", "full leaves mark 2", "full marked 2")
+COUNTS = ("base only counted as waiting", "rows left of the job alone", "base only counted in the job alone",
+          "base only counted before the job", "the two counts exchanged", "complete only where all is full")
+READINGS = ("1 alone is full", "odd marks are full", "marks without bit 1 are full", "marks from 128 are base only",
+            "1 written over a full mark that is kept")
+REFUSED = ("a job that leaves all is refused", "a job that leaves some is refused")
+
+SHOWS = {
+    "late, then there": KEEPING + FULL_JOBS + COUNTS + REFUSED + (
+        "base only marked 1", "all marks but 1 counted as base only"),
+    "late, in part": KEEPING + IN_PART + FULL_JOBS + COUNTS + REFUSED + ("base only marked 1",),
+    "late, after a standby": KEEPING + IN_PART + FULL_JOBS + COUNTS + REFUSED,
+    "late, MMR": KEEPING + IN_PART + FULL_JOBS + COUNTS + REFUSED,
+    "late, other samples": KEEPING + ("base only skips mark 2", "full skips mark 1", "full skips full marks"),
+    "late, refused between": ("kept row pairs left out of 11",) + KEEPING,
+    "late, flag 1": ("flag 1 without a run is base only", "flag 1 is base only"),
+    "late, spoiled marks": KEEPING + IN_PART + READINGS + FULL_JOBS + COUNTS + REFUSED + (
+        "base only skips mark 2", "full skips full marks", "full skips mark 1", "full leaves full marks",
+        "base only marked 1", "all marks but 0 and 1 counted as base only", "all marks but 1 counted as base only",
+        "kept row pairs left out of 11"),
+    "late, spoiled marks, flag 1": (
+        "flag 1 without a run is base only", "flag 1 is base only", "no base only counted with flag 1",
+        "full skips mark 2", "full skips full marks", "full leaves full marks", "base only counted before the job",
+        "all marks but 0 and 1 counted as base only"),
+    "random": KEEPING + IN_PART + FULL_JOBS + COUNTS + REFUSED,
+    "random, MMR": KEEPING + FULL_JOBS + COUNTS,
+}
 
 
 class Stock:
@@ -409,7 +446,7 @@ def flag_nights(generator):
 
 
 def later_nights(generator):
-    """Enhancement now absent, now present, or other samples: the later job's stand."""
+    """Other samples: the later job's stand, but for what is full and comes again without enhancement."""
     absent = ((0, 2, BASE, ENHANCEMENT), (1, 2, BASE, NO_RUN), (3, 1, BASE, NO_RUN),
               (2, 1, BASE, ENHANCEMENT))
     early = ((0, 4, BASE, NO_RUN), (0, 1, BASE, ENHANCEMENT), (2, 2, BASE, ENHANCEMENT),
@@ -425,6 +462,175 @@ def later_nights(generator):
             nights.append(night("later samples stand", stock, [
                 stock.job(first, count, base=base, enhancement=enhancement)
                 for first, count, base, enhancement in jobs]))
+    return nights
+
+
+# The enhancement comes late ---------------------------------------------------
+
+def with_it(*parts):
+    return [(first, count, True) for first, count in parts]
+
+
+def without_it(*parts):
+    return [(first, count, False) for first, count in parts]
+
+
+def late_jobs(stock, sequence, **changes):
+    """Jobs for (first, count, whether it brings the enhancement)."""
+    return [stock.job(first, count, **({} if brings else {"enhancement": NO_RUN}), **changes)
+            for first, count, brings in sequence]
+
+
+def in_turn(rows):
+    """The same row pairs, one after the other."""
+    return [(k, 1) for k in range(rows)]
+
+
+# Of eight row pairs; a night ends where a mistake would stand in the output.
+THEN_THERE = (
+    without_it((0, 8)) + with_it((0, 8)),
+    with_it((0, 8)) + without_it((0, 8)),
+    without_it((0, 8)),
+    without_it(*in_turn(8)) + with_it(*reversed(in_turn(8))),
+    with_it(*in_turn(8)) + without_it(*in_turn(8)),
+    without_it((0, 3), (3, 3)) + with_it((0, 3), (3, 3)) + without_it((6, 2)),
+    with_it((0, 4), (4, 3)) + without_it((0, 4), (4, 3)) + with_it((0, 4)) + without_it((0, 7)),
+)
+IN_PARTS = (
+    with_it((1, 1), (3, 1), (5, 1), (7, 1)) + without_it((0, 8)),
+    with_it((0, 1), (2, 1), (4, 1), (6, 1)) + without_it((0, 8)),
+    with_it((1, 1), (3, 1), (5, 1)) + without_it((0, 4), (2, 5)) + with_it((2, 1)) + without_it((1, 3)),
+    without_it((0, 8)) + with_it((0, 1), (2, 1), (4, 1), (6, 1)) + without_it((0, 8)),
+    without_it((0, 2), (4, 2)) + with_it((1, 4)) + without_it((0, 6)),
+    with_it((0, 4)) + without_it((2, 5)),
+    with_it((4, 4)) + without_it((1, 5)) + with_it((3, 1)) + without_it((3, 2)),
+    without_it((0, 4)) + with_it((2, 4)) + without_it((5, 2), (3, 1), (0, 1)),
+)
+AFTER_STANDBY = (
+    without_it((0, 2), (2, 2), (4, 2), (6, 2)) + with_it((0, 2), (2, 2)) + without_it((0, 2), (2, 2))
+    + with_it((4, 2)),
+    without_it((0, 2), (2, 2), (4, 2)) + with_it((0, 2), (2, 2)) + without_it((2, 2), (4, 2)) + with_it((2, 2))
+    + without_it((1, 4), (3, 4)) + with_it((3, 3)),
+    with_it((0, 3)) + without_it((3, 3)) + with_it((0, 3)) + without_it((3, 3), (0, 3), (1, 5), (6, 1)),
+    without_it((0, 3), (3, 3)) + without_it((0, 3), (3, 3)) + with_it((1, 3)) + without_it((0, 3), (2, 4), (3, 5))
+    + with_it((1, 3), (6, 1)),
+    with_it((0, 2), (2, 2), (4, 2)) + without_it((2, 2), (4, 2), (6, 2)) + with_it((4, 2)) + without_it((0, 7)),
+    without_it((0, 5)) + with_it((4, 3)) + without_it((3, 5), (4, 3)) + with_it((7, 1), (3, 1)) + without_it((0, 8)),
+)
+
+
+def late_nights(generator):
+    """First without the enhancement, then with it, and the other way round; whole, in part, jobs again."""
+    nights = []
+    for kind, sequences in (("late, then there", THEN_THERE), ("late, in part", IN_PARTS),
+                            ("late, after a standby", AFTER_STANDBY)):
+        for at, sequence in enumerate(sequences):
+            for depth in DEPTHS:
+                stock = plain_stock(depth, 21 + at % 3, HDR_DEPTHS[at % 2], 2, 16, generator)
+                nights.append(night(kind, stock, late_jobs(stock, sequence)))
+    return nights
+
+
+def late_mmr_nights(generator):
+    """The same with MMR pieces, whose chroma hangs on luma: every second sequence, depths and versions in turn."""
+    nights = []
+    for at, sequence in enumerate((THEN_THERE + IN_PARTS + AFTER_STANDBY)[::2]):
+        stock = mmr_stock(DEPTHS[at % 2], 17 + at, 2, 16, generator, 0, 1 + at // 2 % 2)
+        nights.append(night("late, MMR", stock, late_jobs(stock, sequence)))
+    return nights
+
+
+def late_other_nights(generator):
+    """Outside the premises: jobs without enhancement have another base, and the enhancement is another one later."""
+    nights = []
+    for at, (depth, d) in enumerate(((8, 18), (10, 28), (8, 30), (10, 16))):
+        stock = mmr_stock(depth, d, 4, 8, generator) if at == 3 else plain_stock(depth, d, 12, 4, 8, generator)
+        without, later = {"enhancement": NO_RUN, "base": OTHER}, {"base": OTHER, "enhancement": BASE}
+        nights.append(night("late, other samples", stock, [
+            stock.job(0, 1), stock.job(2, 1), stock.job(0, 4, **without)]))
+        nights.append(night("late, other samples", stock, [
+            stock.job(0, 3, enhancement=NO_RUN), stock.job(1, 2, **without), stock.job(2, 1),
+            stock.job(2, 2, **without)]))
+        nights.append(night("late, other samples", stock, [
+            stock.job(0, 3), stock.job(0, 4, **without), stock.job(1, 1, **later), stock.job(1, 3, enhancement=NO_RUN),
+            stock.job(3, 1, enhancement=OTHER)]))
+    return nights
+
+
+def bad_in(stock, k, generator):
+    """A base like OTHER with one bad sample in row pair k, in luma, Cb or Cr."""
+    chosen = generator.below(3)
+    places = [at for cmp, at in row_pair_samples(stock.plan, k) if cmp == chosen]
+    return stock.add(replaced(stock.runs[OTHER], generator.choice(places), 1 << stock.plan.BL_bit_depth))
+
+
+def late_refused_nights(generator):
+    """Refused jobs without enhancement between others; a bad sample in a row pair that would be kept is refused too."""
+    nights = []
+    for depth, d, by_mmr in ((8, 23, False), (10, 19, False), (10, 24, True)):
+        stock = mmr_stock(depth, d, 2, 8, generator) if by_mmr else plain_stock(depth, d, 12, 2, 8, generator)
+        first = stock.job(0, 3)
+        refused = [stock.job(0, 4, base=bad_in(stock, k, generator), enhancement=NO_RUN) for k in range(4)]
+        refused += [stock.job(k, 1, base=bad_in(stock, k, generator), enhancement=NO_RUN) for k in range(3)]
+        refused += [stock.breaking(rules, generator)._replace(enhancement=NO_RUN)
+                    for rules in ((7,), (8,), (10,), (8, 10), (7, 8))]
+        refused += [stock.job(0, 4, base=MISFIT, enhancement=NO_RUN), stock.job(0, 4, base=WILD, enhancement=NO_RUN),
+                    stock.job(3, 2, base=OTHER, enhancement=NO_RUN), stock.job(1, 0, base=OTHER, enhancement=NO_RUN)]
+        outside = bad_in(stock, 0, generator)
+        nights.append(night("late, refused between", stock, [first] + refused))
+        nights.append(night("late, refused between", stock, [
+            stock.job(0, 2, enhancement=NO_RUN)] + refused[:7] + [stock.job(1, 1)] + refused + [
+            stock.job(1, 1, base=outside, enhancement=NO_RUN), stock.job(1, 2, base=outside, enhancement=NO_RUN)]))
+    return nights
+
+
+def late_flag_nights(generator):
+    """Flag 1: every job is full, with a run of any sort and without one."""
+    nights = []
+    for at, sequence in enumerate((THEN_THERE + IN_PARTS + AFTER_STANDBY)[1::3]):
+        stock = plain_stock(DEPTHS[at % 2], 20, HDR_DEPTHS[at // 2 % 2], 2, 16, generator, 1)
+        nights.append(night("late, flag 1", stock, late_jobs(stock, sequence)))
+    stock = mmr_stock(10, 22, 2, 16, generator, 1)
+    nights.append(night("late, flag 1", stock, late_jobs(stock, IN_PARTS[0], base=OTHER)))
+    stock = plain_stock(8, 25, 12, 4, 8, generator, 1)
+    nights.append(night("late, flag 1", stock, [
+        stock.job(0, 2, enhancement=NO_RUN), stock.job(1, 2, enhancement=WILD),
+        stock.job(0, 4, enhancement=stock.add([])),
+        stock.job(1, 1, base=OTHER, enhancement=NO_RUN), stock.job(2, 1, base=OTHER, enhancement=MISFIT)]))
+    return nights
+
+
+LATE_MARKS = ((0, 1, 2, 3, 77, 255, 2, 0), (2, 255, 0, 128, 1, 2, 4, 77), (77, 2, 3, 0, 255, 0, 1, 2),
+              (2, 2, 1, 1, 0, 0, 254, 130))
+
+
+def unopened(kind, stock, marks, jobs):
+    """A night whose opening is refused, so that its jobs find these marks."""
+    return night(kind, stock, jobs)._replace(marks=list(marks), opening=ZERO_PLAN)
+
+
+def late_spoiled_nights(generator):
+    """Marks of every sort that no opening cleared: 0 and 2 are composed without enhancement, all others kept."""
+    nights = []
+    for at, marks in enumerate(LATE_MARKS):
+        for flag in (0, 1):
+            def late(jobs):
+                nights.append(unopened("late, spoiled marks" + ", flag 1" * flag, stock, marks, jobs))
+            stock = (mmr_stock(10, 18 + at, 2, 16, generator, flag) if at == 3
+                     else plain_stock(DEPTHS[at % 2], 20 + at, 12, 2, 16, generator, flag))
+            late(late_jobs(stock, without_it((0, 8))))
+            late(late_jobs(stock, without_it((1, 5)) + with_it((3, 2))))
+            late(late_jobs(stock, with_it((0, 8))))
+            late(late_jobs(stock, with_it((2, 1), (4, 1), (6, 1)) + without_it((5, 3))))
+            if flag == 0:
+                late(late_jobs(stock, without_it(*in_turn(8)), base=OTHER))
+                late(late_jobs(stock, without_it((2, 4), (0, 3)) + with_it((6, 2)) + without_it((4, 4))))
+                kept = next(k for k, mark in enumerate(marks) if mark not in (0, 2))
+                bad = bad_in(stock, kept, generator)
+                late([stock.job(0, 8, base=bad, enhancement=NO_RUN), stock.job(kept, 1, base=bad, enhancement=NO_RUN),
+                      stock.job(kept, 1, base=OTHER, enhancement=NO_RUN)])
+            else:
+                late([stock.job(0, 2, enhancement=WILD), stock.job(7, 1, enhancement=NO_RUN)])
     return nights
 
 
@@ -519,6 +725,23 @@ def ignoring(stock, jobs, generator):
             if job.enhancement in (ENHANCEMENT, NO_RUN) else job for job in jobs]
 
 
+def lately(stock, jobs, generator):
+    """With flag 0 and an enhancement: in three of four nights some jobs do not bring it.
+
+    It is missing now and then, or at first always and then now and then, or for some row pairs to the end.
+    """
+    if stock.plan.disable_residual_flag or not stock.runs[ENHANCEMENT]:
+        return jobs
+    kind, comes, never = generator.below(4), generator.below(len(jobs) + 1), generator.below(stock.rows)
+
+    def is_late(at, job):
+        if kind == 3:
+            return job.first <= never < job.first + job.count or generator.one_in(4)
+        return kind > 0 and (kind == 2 and at < comes or generator.one_in(3))
+    return [job._replace(enhancement=NO_RUN) if job.enhancement == ENHANCEMENT and is_late(at, job) else job
+            for at, job in enumerate(jobs)]
+
+
 def random_night(at, generator, version=1, makers=POLYNOMIALS):
     """Within the premises of demand 3; two of three nights end complete.
 
@@ -545,7 +768,7 @@ def random_night(at, generator, version=1, makers=POLYNOMIALS):
         jobs += [job if generator.one_in(3) else widened(job, rows, generator)
                  for job in last]
     kind = "random" + ", MMR" * (makers is MMR) + ", version 2" * (version == 2)
-    made = night(kind, stock, ignoring(stock, jobs, generator))
+    made = night(kind, stock, lately(stock, ignoring(stock, jobs, generator), generator))
     return made._replace(marks=[generator.below(256) for _ in range(rows)])
 
 
@@ -692,5 +915,11 @@ def all_nights():
         + free_nights(Generator(315), 16)
         + last_pivot_nights(Generator(316))
         + mmr_nights(Generator(317))
-        + random_mmr_nights(Generator(318), 24))
+        + random_mmr_nights(Generator(318), 24)
+        + late_nights(Generator(319))
+        + late_mmr_nights(Generator(320))
+        + late_other_nights(Generator(321))
+        + late_refused_nights(Generator(322))
+        + late_flag_nights(Generator(323))
+        + late_spoiled_nights(Generator(324)))
     return [trimmed(one) for one in nights]

@@ -2,12 +2,25 @@
 
 The output run and the marks are lent: an accepted call changes them in place,
 a refused call changes nothing.  No call keeps anything for the next one.
+
+The enhancement may come late: a row pair may be composed without it, and again
+with it.  From then on it is full, and a job without enhancement leaves it so.
 """
 
-import jobs
-from composer import compose_row_pairs, map_place
+from collections import namedtuple
 
-WAITING, DONE = 0, 1        # a mark; any value but 0 reads as done
+import jobs
+from composer import compose_chosen, enhancement_used, map_place
+
+WAITING, FULL, BASE_ONLY = 0, 1, 2      # a mark; any other value reads as full
+
+
+class Counted(namedtuple("Counted", "left base_only")):
+    """What an accepted job answers: how many of all marks are 0 after it, and how many are 2."""
+
+    @property
+    def complete(self):
+        return self.left == 0
 
 
 def open_picture(plan, ticket, marks):
@@ -29,23 +42,47 @@ def opening_refusal(plan, marks):
     return 0
 
 
-def row_job(plan, open_ticket, ticket, first, count, base, enhancement, output, marks):
-    """Give (0, rows left) with the row pairs composed, or (7 to 11, None)."""
-    number = jobs.refusal(plan, open_ticket, ticket, first, count, base, enhancement,
-                          output, marks)
-    if number != 0:
-        return number, None
-    return 0, compose_and_mark(plan, first, count, base, enhancement, output, marks, map_place)
+# What an accepted job does --------------------------------------------------
+
+def is_full_job(plan, enhancement):
+    """With the flag at 1 no residual is to come, so that every job is full."""
+    return plan.disable_residual_flag == 1 or enhancement_used(plan, enhancement)
+
+
+def is_full(mark):
+    return mark not in (WAITING, BASE_ONLY)
+
+
+def composed_by(plan, first, count, enhancement, marks):
+    """Of the row pairs that a job names those that it composes: one without enhancement leaves those that are full."""
+    named = range(first, first + count)
+    if is_full_job(plan, enhancement):
+        return list(named)
+    return [k for k in named if not is_full(marks[k])]
 
 
 def compose_and_mark(plan, first, count, base, enhancement, output, marks, mapping):
-    """What an accepted job does, whichever call it is; give the rows left.  `mapping` is what map_place is."""
-    output[:] = compose_row_pairs(plan, first, count, base, enhancement, output, mapping)
-    for k in range(first, first + count):
-        marks[k] = DONE
-    return rows_left(marks)
+    """What an accepted job does, whichever call it is; give the two counts.  `mapping` is what map_place is."""
+    row_pairs = composed_by(plan, first, count, enhancement, marks)
+    output[:] = compose_chosen(plan, row_pairs, base, enhancement, output, mapping)
+    for k in row_pairs:
+        marks[k] = FULL if is_full_job(plan, enhancement) else BASE_ONLY
+    return counted(marks)
 
 
-def rows_left(marks):
-    """Row pairs still waiting, counted anew each time."""
-    return sum(1 for mark in marks if mark == WAITING)
+def counted(marks):
+    """Row pairs that wait and those that are base only, counted anew each time, over all marks."""
+    return Counted(sum(1 for mark in marks if mark == WAITING), sum(1 for mark in marks if mark == BASE_ONLY))
+
+
+def row_job(plan, open_ticket, ticket, first, count, base, enhancement, output, marks,
+            rules=jobs.rules, done=compose_and_mark):
+    """Give (0, the two counts) with row pairs composed, or (7 to 11, None).
+
+    The right rules and what is done are those given here; wrong_nights.py has others.
+    """
+    number = jobs.first_met(jobs.ORDER, rules(plan, open_ticket, ticket, first, count, base, enhancement, output,
+                                              marks))
+    if number != 0:
+        return number, None
+    return 0, done(plan, first, count, base, enhancement, output, marks, map_place)

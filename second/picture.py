@@ -1,9 +1,11 @@
 """compose_file in the second program.
 
-    python3 picture.py [--standby] BLOCK BASE ENHANCEMENT OUTPUT ...      (ENHANCEMENT may be none)
+    python3 picture.py [--standby] { [--late] BLOCK BASE ENHANCEMENT OUTPUT } ...      (ENHANCEMENT may be none)
 
 Composes pictures from files, a group of four words after the other, by the same
-jobs, says what compose_file has to say, and writes the pictures.
+jobs, says what compose_file has to say, and writes the pictures.  In a late group
+the enhancement comes late, and each picture is written twice, as a screen shows
+it: composed without the enhancement, and after that came.
 """
 
 import errno
@@ -13,6 +15,7 @@ import sys
 import zlib
 
 import block
+import composer
 import inspect_block
 import limits
 import nights
@@ -23,9 +26,9 @@ IN_FLIGHT = 16          # row pairs sent again after the standby
 BAND_SAMPLES = 98304    # the row pairs of a band have no more
 TICKET = 1
 GROUP = 4               # words: BLOCK BASE ENHANCEMENT OUTPUT
-STANDBY = "--standby"
+STANDBY, LATE = "--standby", "--late"
 NONE = "none"
-USE = "use: compose_file [--standby] BLOCK BASE ENHANCEMENT OUTPUT ..."
+USE = "use: compose_file [--standby] [--late] BLOCK BASE ENHANCEMENT OUTPUT ..."
 
 
 class NotWritten(Exception):
@@ -126,9 +129,10 @@ def bands(plan):
     return batches(0, plan.half_height, BAND_SAMPLES // (3 * plan.width))
 
 
-def job_line(first, count, left):
-    return "job, %d row pairs from %d: %s" % (
-        count, first, "%d row pairs left" % left if left else "complete")
+def job_line(job, first, count, counted):
+    return "%s, %d row pairs from %d: %s%s" % (
+        job, count, first, "complete" if counted.complete else "%d row pairs left" % counted.left,
+        ", %d base only" % counted.base_only if counted.base_only else "")
 
 
 class Night:
@@ -140,37 +144,75 @@ class Night:
         self.output, self.marks = [0] * len(base), [0] * plan.half_height
         assert nights.open_picture(plan, TICKET, self.marks) == (0, TICKET)
 
-    def send(self, first, count):
+    def send(self, first, count, enhancement):
         number, _ = nights.row_job(self.plan, TICKET, TICKET, first, count, self.base,
-                                   self.enhancement, self.output, self.marks)
+                                   enhancement, self.output, self.marks)
         if number != 0:
             assert number == 11
-            raise NotWritten(self.large_sample(first, count))
+            raise NotWritten(self.large_sample(first, count, enhancement))
 
     def compose(self):
         for first, count in bands(self.plan):
-            self.send(first, count)
+            self.send(first, count, self.enhancement)
 
     def compose_with_standbys(self):
         """Gives the lines that are said."""
-        for first, count in bands(self.plan):
-            yield "picture %d, row pairs %d to %d" % (self.k, first, first + count - 1)
-            middle, stop = first + count // 2, first + count
-            yield from self.said(first, middle, first, stop)
+        for band in bands(self.plan):
+            first, middle, stop = self.parts(band)
+            yield self.band_line(band)
+            yield from self.said(first, middle, band)
             yield "standby; the jobs in flight are sent again"
-            yield from self.said(max(first, middle - IN_FLIGHT), middle, first, stop)
-            yield from self.said(middle, stop, first, stop)
+            yield from self.said(max(first, middle - IN_FLIGHT), middle, band)
+            yield from self.said(middle, stop, band)
 
-    def said(self, start, stop, band, band_stop):
-        """Sends the row pairs from start to stop - 1; says the rows left of their band."""
+    def compose_late(self, early):
+        """The same where the enhancement comes late; `early` becomes the picture that is shown before it comes.
+
+        After the standby the base is there first: what is sent again does not bring the enhancement.
+        """
+        for band in bands(self.plan):
+            first, middle, stop = self.parts(band)
+            yield self.band_line(band)
+            yield "the enhancement is late"
+            yield from self.said_without(first, stop, band)
+            self.show(band, early)
+            yield "the enhancement has come"
+            yield from self.said(first, middle, band)
+            yield "standby; the jobs in flight are sent again"
+            yield from self.said_without(max(first, middle - IN_FLIGHT), middle, band)
+            yield from self.said(middle, stop, band)
+
+    def parts(self, band):
+        """Where a band begins, where its standby is, and where it ends."""
+        first, count = band
+        return first, first + count // 2, first + count
+
+    def band_line(self, band):
+        first, count = band
+        return "picture %d, row pairs %d to %d" % (self.k, first, first + count - 1)
+
+    def said(self, start, stop, band):
+        """Sends the row pairs from start to stop - 1 with what enhancement there is; says the counts of their band."""
+        return self.jobs("job", start, stop, band, self.enhancement)
+
+    def said_without(self, start, stop, band):
+        return self.jobs("job without enhancement", start, stop, band, [])
+
+    def jobs(self, name, start, stop, band, enhancement):
         for first, count in batches(start, stop, BATCH):
-            self.send(first, count)
-            yield job_line(first, count, nights.rows_left(self.marks[band:band_stop]))
+            self.send(first, count, enhancement)
+            yield job_line(name, first, count, nights.counted(self.marks[band[0]:sum(band)]))
 
-    def large_sample(self, first, count):
+    def show(self, band, shown):
+        """The band as it stands now, in a run of the whole picture."""
+        for k in range(band[0], sum(band)):
+            for _, at in composer.row_pair_samples(self.plan, k):
+                shown[at] = self.output[at]
+
+    def large_sample(self, first, count, enhancement):
         """The line about the first sample that rule 11 refuses: the base's before the enhancement's."""
         depths = (self.plan.BL_bit_depth, self.plan.EL_bit_depth)
-        for name, run, depth in zip(self.names, (self.base, self.enhancement), depths):
+        for name, run, depth in zip(self.names, (self.base, enhancement), depths):
             for cmp, row, column, at in plane_samples(self.plan, first, count) if run else ():
                 if run[at] not in limits.samples(depth):
                     return words.refused(
@@ -229,22 +271,26 @@ def open_inputs(plan, base_name, enhancement_name):
     return base, enhancement
 
 
-def compose_all(plan, count, base, enhancement, output, standby):
+def compose_all(plan, count, base, enhancement, output, standby, late):
     """Writes the pictures; gives the lines that are said."""
     size = 2 * plan.picture_samples
     for k in range(count):
         names = [base.name, enhancement.name if enhancement else NONE]
         night = Night(plan, k, names, base.picture(k, size),
                       enhancement.picture(k, size) if enhancement else [])
-        if standby:
+        if late:
+            early = [0] * plan.picture_samples
+            yield from night.compose_late(early)
+            output.write(early)
+        elif standby:
             yield from night.compose_with_standbys()
         else:
             night.compose()
         output.write(night.output)
 
 
-def group(standby, block_name, base_name, enhancement_name, output_name):
-    """The lines of a group whose picture is written; else NotWritten after some of them."""
+def group(standby, late, block_name, base_name, enhancement_name, output_name):
+    """The lines of a group whose pictures are written; else NotWritten after some of them."""
     plan = read_block(block_name)
     base, enhancement = open_inputs(plan, base_name, enhancement_name)
     count = base.length // (2 * plan.picture_samples)
@@ -253,27 +299,39 @@ def group(standby, block_name, base_name, enhancement_name, output_name):
         enhancement_words(plan, enhancement))
     output = Output(output_name)
     try:
-        yield from compose_all(plan, count, base, enhancement, output, standby)
+        yield from compose_all(plan, count, base, enhancement, output, standby, late)
         adler = output.move()
     except NotWritten:
         output.remove()
         raise
-    yield "%s: %s, Adler-32 %d" % (output_name, pictures(count), adler)
+    yield "%s: %s, Adler-32 %d" % (output_name, pictures(2 * count if late else count), adler)
+
+
+def groups(names):
+    """((late, its four words) of each group, the words that are left over)."""
+    found = []
+    while names:
+        late = names[0] == LATE
+        words_of = names[late:late + GROUP]
+        if len(words_of) < GROUP:
+            break
+        found.append((late, words_of))
+        names = names[late + GROUP:]
+    return found, names
 
 
 def answer(given):
     """The lines for a word list, while its files are read and written."""
     standby = given[:1] == [STANDBY]
-    names = given[1:] if standby else given
-    whole = len(names) - len(names) % GROUP
-    for at in range(0, whole, GROUP):
+    found, left_over = groups(given[1:] if standby else given)
+    for late, names in found:
         try:
-            yield from group(standby, *names[at:at + GROUP])
+            yield from group(standby, late, *names)
             yield "written"
         except NotWritten as why:
             yield str(why)
             yield "not written"
-    if whole == 0 or whole < len(names):
+    if not found or left_over:
         yield USE
         yield "not written"
 

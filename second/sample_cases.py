@@ -723,8 +723,8 @@ def random_section(depth, d, generator, version=1):
     largest = generator.choice(((1 << depth) - 1, (1 << depth) // (n + 1), 12))
     pivots = [generator.below(generator.choice((1, 20, 1 << depth)))]
     for _ in range(n + 1):
-        pivots.append(pivots[-1] + generator.choice((0, 1, 2, 2, 2, 2))
-                      * generator.below(largest + 1) // 2)
+        step = generator.choice((0, 1, 2, 2, 2, 2)) * generator.below(largest + 1) // 2
+        pivots.append(pivots[-1] + min(step, limits.samples(depth)[-1]))
     pieces = []
     for _ in range(limits.carried(n, version)):
         order = generator.between(1, 2)

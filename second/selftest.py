@@ -34,6 +34,7 @@ import words
 import write_cases
 import writer
 import wrong_mappers
+import wrong_nights
 import wrong_readers
 import wrong_tables
 import wrong_writers
@@ -983,42 +984,88 @@ class Room:
 
 
 def test_worked_night():
-    """H = 4: (0,1), (0,1), (1,1) leave 1, 1, 0; (2,1) is refused 10."""
-    room = Room(tall_plan(2), [3, 0])
+    """H = 4: (0,1), (0,1), (1,1) leave 1, 1, 0; (2,1) is refused 10.  With the flag at 1 all are full."""
+    room = Room(tall_plan(2, flag=1), [3, 0])
     assert nights.open_picture(room.plan, 77, room.marks) == (0, 77)
-    assert room.job(0, 1) == (0, 1)
+    assert room.job(0, 1) == (0, (1, 0))
     assert list(room.marks) == [1, 0]
     # Row pair 0 is luma 0..3, Cb 8, Cr 10; 65,472 + 8 >> 4 = 4,092.
     after_one = [4092, 4092, 4092, 4092, 60004, 60005, 60006, 60007,
                  4092, 60009, 4092, 60011]
     assert room.output == after_one
-    assert room.job(0, 1) == (0, 1)
+    assert room.job(0, 1) == (0, (1, 0))
     assert room.output == after_one and list(room.marks) == [1, 0]
-    assert room.job(1, 1) == (0, 0)
+    assert room.job(1, 1) == (0, (0, 0))
     assert room.job(2, 1) == (10, None)
     assert room.output == [4092] * 12 and list(room.marks) == [1, 1]
-    assert room.job(0, 2) == (0, 0)                # replayed after the end
+    assert room.job(0, 2) == (0, (0, 0))           # replayed after the end
+    # With the flag at 0 and no enhancement the same row pairs are base only.
+    room = Room(tall_plan(2), [0, 0])
+    assert room.job(0, 1) == room.job(0, 1) == (0, (1, 1))
+    assert room.output == after_one and list(room.marks) == [2, 0]
+    assert room.job(1, 1) == (0, (0, 2)) and room.job(2, 1) == (10, None)
+    assert room.output == [4092] * 12 and list(room.marks) == [2, 2]
 
 
 def test_rows_left():
     """Five row pairs: marks are counted, no count is subtracted."""
-    room = Room(tall_plan(5), [0] * 5)
-    for first, count, left in ((1, 2, 3), (1, 2, 3), (2, 2, 2), (1, 1, 2), (0, 4, 1),
-                               (3, 2, 0), (0, 1, 0)):
-        assert room.job(first, count) == (0, left)
-    assert list(room.marks) == [1] * 5
+    for flag, mark in ((1, 1), (0, 2)):
+        room = Room(tall_plan(5, flag), [0] * 5)
+        for first, count, left in ((1, 2, 3), (1, 2, 3), (2, 2, 2), (1, 1, 2), (0, 4, 1),
+                                   (3, 2, 0), (0, 1, 0)):
+            assert room.job(first, count) == (0, (left, 0 if flag else 5 - left))
+        assert list(room.marks) == [mark] * 5
+
+
+def test_late():
+    """By hand, the enhancement late: code 1 comes to 4, and to 11 with what is one above the offset.
+
+    Three row pairs of 2 x 6: row pair k is luma 4k to 4k + 3, Cb 12 + k, Cr 15 + k.
+    """
+    def picture_of(*values):
+        return [value for value in values for _ in range(4)] + list(values) * 2
+
+    room = Room(tall_plan(3), [0] * 3)
+    low, above = [1] * 18, [513] * 18
+    assert room.job(0, 2, base=low) == (0, (1, 2)) and list(room.marks) == [2, 2, 0]
+    assert room.output[:8] == [4] * 8 and room.output[8:12] == [60008, 60009, 60010, 60011]
+    assert room.job(1, 1, base=low, enhancement=above) == (0, (1, 1)) and list(room.marks) == [2, 1, 0]
+    assert room.output[:12] == [4] * 4 + [11] * 4 + [60008, 60009, 60010, 60011]
+    # Row pair 1 stays as it is, with another base too; the two beside it are composed.
+    assert room.job(0, 3) == (0, (0, 2)) and list(room.marks) == [2, 1, 2]
+    assert room.output == picture_of(4092, 11, 4092)
+    assert room.job(1, 1) == (0, (0, 2)) and room.output == picture_of(4092, 11, 4092)
+    # A bad sample in the row pair that would stay is refused all the same; beside the job it is not looked at.
+    bad = low[:5] + [1024] + low[6:]
+    assert room.job(1, 1, base=bad) == room.job(0, 3, base=bad) == (11, None)
+    assert room.job(0, 1, base=bad) == (0, (0, 2)) and room.output == picture_of(4, 11, 4092)
+    assert room.job(0, 3, base=low, enhancement=above) == (0, (0, 0)) and list(room.marks) == [1, 1, 1]
+    assert room.job(0, 3) == (0, (0, 0)) and room.output == picture_of(11, 11, 11)
+    # A full job composes what is full again, and an opening has all wait again.
+    assert room.job(2, 1, enhancement=[512] * 18) == (0, (0, 0)) and room.output == picture_of(11, 11, 4092)
+    assert nights.open_picture(room.plan, 5, room.marks) == (0, 5)
+    assert room.job(2, 1, base=low) == (0, (2, 1)) and room.output == picture_of(11, 11, 4)
 
 
 def test_spoiled_marks():
-    """Without an opening: any value but 0 reads as done, and a job writes 1."""
-    room = Room(tall_plan(4), [0, 7, 255, 0])
-    assert room.job(1, 1) == (0, 2)
-    assert list(room.marks) == [0, 1, 255, 0]
-    assert room.job(0, 1, own=78) == (8, None)
-    assert room.job(0, 1) == (0, 1)
-    assert room.job(3, 1) == (0, 0)
-    assert list(room.marks) == [1, 1, 255, 1]
-    assert room.output[8:12] == [60008, 60009, 60010, 60011]      # row pair 2
+    """Without an opening: a full job writes 1 to any mark, one without enhancement keeps all but 0 and 2."""
+    spoilt = [0, 1, 2, 3, 77, 255]
+    untouched = answers.untouched_output(36)
+    for flag, enhancement in ((0, [512] * 36), (1, []), (1, [65535])):
+        room = Room(tall_plan(6, flag), spoilt)
+        assert room.job(4, 1, enhancement=enhancement) == (0, (1, 1)) and list(room.marks) == [0, 1, 2, 3, 1, 255]
+        assert room.job(0, 1, own=78) == (8, None)
+        assert room.job(2, 2, enhancement=enhancement) == (0, (1, 0)) and list(room.marks) == [0, 1, 1, 1, 1, 255]
+        assert room.output[8:20] == [4092] * 12 and room.output[:8] + room.output[20:24] == (
+            untouched[:8] + untouched[20:24])
+        assert room.job(0, 6, enhancement=enhancement) == (0, (0, 0)) and list(room.marks) == [1] * 6
+        assert room.output == [4092] * 36
+    room = Room(tall_plan(6), spoilt)
+    assert room.job(3, 3) == (0, (1, 1)) and list(room.marks) == spoilt and room.output == untouched
+    assert room.job(0, 6) == (0, (0, 2)) and list(room.marks) == [2, 1, 2, 3, 77, 255]
+    assert room.output[:12] == [4092] * 4 + untouched[4:8] + [4092] * 4 and room.output[12:24] == untouched[12:24]
+    # Cb and Cr of row pairs 0 and 2 stand at 24, 26, 30 and 32.
+    assert [at for at in range(24, 36) if room.output[at] != untouched[at]] == [24, 26, 30, 32]
 
 
 def test_order_of_refusals():
@@ -1039,7 +1086,7 @@ def test_order_of_refusals():
     half = [1023] * 10 + [1024, 1023]
     assert room.job(0, 2, base=half) == room.job(0, 1, base=half) == (11, None)
     assert room.output == answers.untouched_output(12) and list(room.marks) == [9, 0]
-    assert room.job(1, 1, base=half) == (0, 0)
+    assert room.job(1, 1, base=half) == (0, (0, 1))
     # A memory of the wrong size: 9, after 7 and 8 and before 10 and 11.
     for output, marks in ((12, 1), (12, 3), (12, 0), (11, 2), (13, 2), (0, 2)):
         room.output = answers.untouched_output(output)
@@ -1052,20 +1099,22 @@ def test_order_of_refusals():
 
 
 def test_later_samples_stand():
-    """Not within demand 3's premises: each job composes what it was lent."""
+    """Not within demand 3's premises: each job composes what it was lent, but for what it leaves."""
     room = Room(tall_plan(2), [0, 0])
     low, above = [1] * 12, [513] * 12
     # s = 1 maps to 64; 64 + 8 >> 4 = 4; with the residual 64 + 114 + 8 >> 4 = 11.
-    assert room.job(0, 2, base=low, enhancement=above) == (0, 0)
-    assert room.output == [11] * 12
-    assert room.job(1, 1, base=low) == (0, 0)
+    assert room.job(0, 1, base=low, enhancement=above) == (0, (1, 0))
+    assert room.job(0, 2, base=low) == (0, (0, 1))
     assert room.output == [11] * 4 + [4] * 4 + [11, 4, 11, 4]
-    assert room.job(0, 1) == (0, 0)
-    assert room.output == [4092] * 4 + [4] * 4 + [4092, 4, 4092, 4]
+    assert room.job(1, 1) == (0, (0, 1))
+    assert room.output == [11] * 4 + [4092] * 4 + [11, 4092, 11, 4092]
+    assert room.job(0, 2, enhancement=above) == (0, (0, 0))     # 65,472 + 114 + 8 >> 4 is above 4,095
+    assert room.job(0, 1, base=low, enhancement=[512] * 12) == (0, (0, 0))
+    assert room.output == [4] * 4 + [4095] * 4 + [4, 4095, 4, 4095]
     # Flag 1: the enhancement is ignored, whatever its length and samples.
     room = Room(tall_plan(2, flag=1), [0, 0])
     for ignored in ([], above, [65535], [65535] * 12, [0] * 13):
-        assert room.job(1, 1, base=low, enhancement=ignored) == (0, 1)
+        assert room.job(1, 1, base=low, enhancement=ignored) == (0, (1, 0))
         assert room.output[4:8] == [4] * 4
 
 
@@ -1104,15 +1153,60 @@ def lent_runs(night, job):
     return night.runs[job.base], [] if none else night.runs[job.enhancement]
 
 
+class Demand:
+    """What demand 3 says of one picture: built from the accepted jobs alone, as they come; no mark is looked at."""
+
+    def __init__(self, plan):
+        self.plan, self.base, self.enhancement = plan, None, []
+        self.named, self.with_it = set(), set()     # row pairs; those named by a job that brought the enhancement
+
+    def accept(self, job, base, enhancement):
+        """One more accepted job; its samples have to be within the premises."""
+        own = set(range(job.first, job.first + job.count))
+        assert self.base in (None, base)
+        self.base = base
+        self.named |= own
+        if self.plan.disable_residual_flag == 0 and enhancement != []:
+            assert self.enhancement in ([], enhancement)
+            self.enhancement = enhancement
+            self.with_it |= own
+
+    def full(self):
+        return self.named if self.plan.disable_residual_flag else self.with_it
+
+    def line(self):
+        """What the last accepted job is to say."""
+        return job_line(self.plan.half_height - len(self.named), len(self.named) - len(self.full()))
+
+    def marks(self):
+        return [1 if k in self.full() else 2 if k in self.named else 0 for k in range(self.plan.half_height)]
+
+    def output(self):
+        run = answers.untouched_output(self.plan.picture_samples)
+        for at in range(len(run)):
+            k = place_of(self.plan, at)[1]
+            if k in self.named:
+                run[at] = composed_sample(self.plan, at, self.base, self.enhancement if k in self.full() else [])
+        return run
+
+
+def job_line(left, base_only):
+    """The line of an accepted job, in the words of README.md."""
+    return ("complete" if left == 0 else "left %d" % left) + ", base only %d" % base_only
+
+
+PREMISED = ("random", "random, version 2", "random, MMR", "random, MMR, version 2", "late, then there",
+            "late, in part", "late, after a standby", "late, MMR")
+
+
 def test_demand_3():
-    """Demand 3's sentence over the random nights; marks play no part in it."""
-    chosen = [night for night in all_nights() if night.kind in (
-        "random", "random, version 2", "random, MMR", "random, MMR, version 2")]
-    accepted = refused = complete = 0
+    """Demand 3's sentence over the random nights and the late ones; marks play no part in it."""
+    chosen = [night for night in all_nights() if night.kind in PREMISED]
+    accepted = refused = complete = late = mixed = 0
     for night in chosen:
-        opening, jobs_done, output, _ = played(night)
+        opening, jobs_done, output, marks = played(night)
         assert opening == "open %d" % night.ticket
-        named, lent = set(), []
+        demand = Demand(night.plan)
         for job, answer in jobs_done:
             assert job.open_ticket == night.ticket
             if answer.startswith("refused"):
@@ -1120,47 +1214,124 @@ def test_demand_3():
                 continue
             accepted += 1
             assert job.plan == night_cases.BLOCK_PLAN
-            lent.append(lent_runs(night, job))
-            named |= set(range(job.first, job.first + job.count))
-            left = len(set(range(night.plan.half_height)) - named)
-            assert answer == ("complete" if left == 0 else "left %d" % left)
-        for base, enhancement in lent:              # the premises
-            assert base == lent[0][0]
-            assert night.plan.disable_residual_flag or enhancement == lent[0][1]
-        at_opening = answers.untouched_output(night.plan.picture_samples)
-        for at, before in enumerate(at_opening):
-            if place_of(night.plan, at)[1] in named:
-                assert output[at] == composed_sample(night.plan, at, *lent[0])
-            else:
-                assert output[at] == before
-        complete += len(named) == night.plan.half_height
-    assert len(chosen) >= 60 and accepted > 600 and refused > 300
-    assert 40 <= complete < len(chosen)
+            demand.accept(job, *lent_runs(night, job))
+            assert answer == demand.line()
+        assert output == demand.output() and marks == demand.marks()
+        complete += 0 not in marks
+        late += 2 in marks
+        mixed += {1, 2} <= set(marks)
+    assert len(chosen) >= 120 and accepted > 1000 and refused > 300 and late > 40 and mixed > 20
+    assert 60 <= complete < len(chosen)
     shapes = {(night.plan.half_height, night.plan.BL_bit_depth) for night in chosen}
     assert len(shapes) == 16                        # H/2 from 1 to 8, both depths
 
 
+def test_any_order():
+    """Within the premises the jobs of a night end alike in any order: what came without enhancement first, or last."""
+    orders = (lambda job: job.enhancement == answers.NO_RUN, lambda job: job.enhancement != answers.NO_RUN)
+    moved = 0
+    for night in all_nights():
+        if night.kind in PREMISED:
+            ends = [played(night)[2:]]
+            for order in orders:
+                ends.append(played(night._replace(jobs=sorted(night.jobs, key=order)))[2:])
+            ends.append(played(night._replace(jobs=night.jobs[::-1]))[2:])
+            assert all(end == ends[0] for end in ends), night.kind
+            moved += len({order(job) for order in orders for job in night.jobs}) == 2
+    assert moved > 100
+
+
+def last_word(before, naming):
+    """(the mark after it, the job whose samples stand or None) of a row pair with this mark before.
+
+    `naming` are the accepted jobs that named it, in order: (whether it is full, anything about it).  Of full ones the
+    last decides; where there is none and the row pair was not full before, the last one of all.
+    """
+    full = [about for is_full, about in naming if is_full]
+    if full:
+        return 1, full[-1]
+    if before not in (0, 2) or not naming:
+        return before, None
+    return 2, naming[-1][1]
+
+
+def brings_all(plan, enhancement):
+    return plan.disable_residual_flag == 1 or enhancement != []
+
+
+def test_last_word():
+    """By hand."""
+    late, there = (False, "late"), (True, "there")
+    assert last_word(0, []) == (0, None) and last_word(77, []) == (77, None) and last_word(2, []) == (2, None)
+    for before in (0, 2):
+        assert last_word(before, [late]) == (2, "late") and last_word(before, [late, (False, "again")]) == (2, "again")
+        assert last_word(before, [late, there]) == last_word(before, [there, late]) == (1, "there")
+    for before in (1, 3, 77, 255):
+        assert last_word(before, [late, late]) == (before, None) and last_word(before, [late, there]) == (1, "there")
+
+
 def test_any_night():
-    """Every night: the last accepted job that named a row pair decides its samples."""
+    """Every night, whatever its marks were: of the accepted jobs that named a row pair one decides its samples."""
     for night in all_nights():
         opening, jobs_done, output, marks = played(night)
         opened = opening == "open %d" % night.ticket
         assert opened or opening in ("refused 7", "refused 9")
         before = [0] * len(night.marks) if opened else night.marks
-        last = {}
+        naming = [[] for _ in before]
         for job, answer in jobs_done:
             if not answer.startswith("refused"):
+                lent = lent_runs(night, job)
                 for k in range(job.first, job.first + job.count):
-                    last[k] = lent_runs(night, job)
-                left = sum(1 for k, mark in enumerate(before)
-                           if mark == 0 and k not in last)
-                assert answer == ("complete" if left == 0 else "left %d" % left)
-        assert marks == [1 if k in last else mark for k, mark in enumerate(before)]
+                    naming[k].append((brings_all(night.plan, lent[1]), lent))
+                after = [last_word(*one)[0] for one in zip(before, naming)]
+                assert answer == job_line(after.count(0), after.count(2))
+        words_said = [last_word(*one) for one in zip(before, naming)]
+        assert marks == [mark for mark, _ in words_said]
         for at, sample in enumerate(answers.untouched_output(night.output_size)):
             k = place_of(night.plan, at)[1]
-            if k in last:
-                sample = composed_sample(night.plan, at, *last[k])
+            if k < len(words_said) and words_said[k][1] is not None:
+                sample = composed_sample(night.plan, at, *words_said[k][1])
             assert output[at] == sample
+
+
+@functools.lru_cache(maxsize=None)
+def night_lines():
+    """[(night, its bytes, what is said of it)]."""
+    made = [(night, make_vectors.night_stream([night])) for night in all_nights()]
+    return [(night, data, answers.night_answers(data)) for night, data in made]
+
+
+def test_night_cases():
+    """Each late kind of night tells the wrong programs that it is said to show, and each wrong program is shown."""
+    kinds = {}
+    for night, data, lines in night_lines():
+        kinds.setdefault(night.kind, []).append((data, lines))
+    assert set(night_cases.SHOWS) <= set(kinds)
+    assert {kind for kind in kinds if kind.startswith("late,")} <= set(night_cases.SHOWS)
+    assert_shown(night_cases.SHOWS, kinds, wrong_nights.WRONG,
+                 lambda one, wrong: answers.night_answers(one[0], wrong) != one[1])
+    assert shown_names(night_cases.SHOWS) == set(wrong_nights.WRONG)
+    # the parts that they are made of make the right program where none of them is wrong
+    right = wrong_nights.Nights(functools.partial(nights.row_job, done=wrong_nights.doing()))
+    assert all(answers.night_answers(data, right) == lines for _, data, lines in night_lines())
+
+
+def test_late_nights():
+    """What the late nights are to hold: both depths and methods, counts that differ, every mark kept and written."""
+    found, counts = set(), set()
+    for night, _, lines in night_lines():
+        if not night.kind.startswith("late,"):
+            continue
+        by_mmr = any(composer.has_mmr(night.plan, cmp) for cmp in (1, 2))
+        found.add((night.plan.BL_bit_depth, by_mmr, night.plan.disable_residual_flag))
+        for line in lines[1:-2]:
+            if not line.startswith("refused"):
+                counts.add(line)
+    assert {(8, False, 0), (10, False, 0), (8, True, 0), (10, True, 0), (8, False, 1), (10, False, 1),
+            (10, True, 1)} <= found
+    assert {job_line(left, base_only) for left, base_only in ((0, 0), (0, 8), (7, 1), (6, 2), (2, 6), (0, 4), (4, 0),
+                                                              (1, 3), (5, 3), (2, 2))} <= counts
+    assert {0, 1, 2, 3, 77, 128, 255} <= {mark for marks in night_cases.LATE_MARKS for mark in marks}
 
 
 def broken_rules(night, job):
@@ -1285,24 +1456,27 @@ def table_job(room, first, count, plan=None, own=77, base=None, enhancement=()):
 def test_table_job():
     """By hand, 12 bits, so that v comes to (v + 8) / 16: code 4 of luma is 256, of Cb 32,768, of Cr 1."""
     room = table_room()
-    assert table_job(room, 0, 1) == (0, 1) and list(room.marks) == [1, 0]
+    assert table_job(room, 0, 1) == (0, (1, 1)) and list(room.marks) == [2, 0]
     # Row pair 0 is luma 0..3, Cb 8, Cr 10.
     after_one = [16, 16, 16, 16, 60004, 60005, 60006, 60007, 2048, 60009, 0, 60011]
     assert room.output == after_one
-    assert table_job(room, 0, 1) == (0, 1) and room.output == after_one
+    assert table_job(room, 0, 1) == (0, (1, 1)) and room.output == after_one
     # Whatever the table holds: 100 comes to 6, 65,535 is cut to 4,095, and one above 512 the residual is 114.
     room.table[4], room.table[1024 + 4], room.table[2048 + 4] = 100, 65535, 7
-    assert table_job(room, 0, 2) == (0, 0)
+    assert table_job(room, 0, 2) == (0, (0, 2))
     assert room.output == [6] * 8 + [4095] * 2 + [0] * 2                # 7 + 8 >> 4 is 0
-    assert table_job(room, 1, 1, enhancement=[513] * 12) == (0, 0)      # 214 + 8 >> 4 is 13, 121 + 8 >> 4 is 8
-    assert room.output == [6] * 4 + [13] * 4 + [4095] * 2 + [0, 8]
+    assert table_job(room, 1, 1, enhancement=[513] * 12) == (0, (0, 1))     # 214 + 8 >> 4 is 13, 121 + 8 >> 4 is 8
+    assert room.output == [6] * 4 + [13] * 4 + [4095] * 2 + [0, 8] and list(room.marks) == [2, 1]
     before = list(room.table)
     room.table[:] = [0] * 3072
-    assert table_job(room, 0, 2, enhancement=[511] * 12) == (0, 0) and room.output == [0] * 12      # -114 is raised
+    # Row pair 1 is full and stays: row pair 0 alone has what the table holds now.
+    assert table_job(room, 0, 2) == (0, (0, 1)) and list(room.marks) == [2, 1]
+    assert room.output == [0] * 4 + [13] * 4 + [0, 4095, 0, 8]
+    assert table_job(room, 0, 2, enhancement=[511] * 12) == (0, (0, 0)) and room.output == [0] * 12     # -114 is raised
     # The sample is not clamped to pivots: with those at 100 and 200 code 4 is looked up at 4.
     narrow = places.changed(room.plan, [(("pred_pivot_value", 0, 0), 100), (("pred_pivot_value", 0, 1), 100)])
-    room.table[:] = before
-    assert table_job(room, 0, 1, plan=narrow) == (0, 0) and room.output[:4] == [6] * 4
+    room.table[:], room.marks = before, bytearray(2)
+    assert table_job(room, 0, 1, plan=narrow) == (0, (1, 1)) and room.output[:4] == [6] * 4
     assert room.table == before                                         # a job only reads it
 
 
@@ -1329,7 +1503,8 @@ def test_table_job_refusals():
     assert table_job(room, 0, 1, enhancement=wild) == (11, None)
     assert room.table == right and room.output == answers.untouched_output(12) and list(room.marks) == [9, 0]
     # The plain call composes with the MMR piece, which no sample meets.
-    assert room.job(1, 1, plan=mmr) == (0, 0) and room.output[4:8] == [16] * 4
+    assert room.job(1, 1, plan=mmr) == (0, (0, 1)) and room.output[4:8] == [16] * 4
+    assert list(room.marks) == [9, 2]
 
 
 class TableNight:
@@ -1400,12 +1575,12 @@ def test_both_calls_alike():
 
 def test_demand_3_of_tables():
     """Demand 3's sentence with both calls, for each of two pictures by itself."""
-    accepted, refused, complete, both = {}, 0, 0, 0
-    chosen = [night for night in table_nights() if night.case.kind in ("mixed night", "two pictures")]
+    accepted, refused, complete, both, late = {}, 0, 0, 0, 0
+    chosen = [night for night in table_nights() if night.case.kind in ("mixed night", "two pictures", "late")]
     for night in chosen:
         plan = night.case.plan
-        for picture in range(1 + (night.case.kind == "two pictures")):
-            opened, named, lent, calls = None, set(), [], set()
+        for picture in range(2 - (night.case.kind == "mixed night")):
+            opened, demand, calls = None, Demand(plan), set()
             for step, line, _, _, source in night.walk():
                 if step.kind == answers.OPEN and step.fields[0] == picture:
                     opened = step.fields[2]
@@ -1418,21 +1593,15 @@ def test_demand_3_of_tables():
                     refused += 1
                     continue
                 assert job.plan == night_cases.BLOCK_PLAN and source == plan        # the premises
-                lent.append(night.lent(job))
                 calls.add(step.kind)
                 accepted[step.kind] = accepted.get(step.kind, 0) + 1
-                named |= set(range(job.first, job.first + job.count))
-                left = plan.half_height - len(named)
-                assert line == ("complete" if left == 0 else "left %d" % left)
-            for base, enhancement in lent:
-                assert base == lent[0][0] and (plan.disable_residual_flag or enhancement == lent[0][1])
-            for at, before in enumerate(answers.untouched_output(plan.picture_samples)):
-                if place_of(plan, at)[1] in named:
-                    before = composed_sample(plan, at, *lent[0])
-                assert night.outputs[picture][at] == before
-            complete += len(named) == plan.half_height
+                demand.accept(job, *night.lent(job))
+                assert line == demand.line()
+            assert night.outputs[picture] == demand.output() and night.marks[picture] == demand.marks()
+            complete += 0 not in demand.marks()
+            late += 2 in demand.marks()
             both += len(calls) == 2
-    assert min(accepted.values()) > 250 and refused > 250 and complete > 40 and both > 40
+    assert min(accepted.values()) > 250 and refused > 250 and complete > 40 and both > 40 and late > 30
     assert {(night.case.plan.half_height, night.case.plan.BL_bit_depth) for night in chosen} == {
         (rows, depth) for rows in range(1, 9) for depth in limits.DEPTHS}
 
@@ -1445,22 +1614,51 @@ def looked_up(plan, table, at, base, enhancement):
     return reconstruct(v, r, 0, plan.hdr_bit_depth)
 
 
+class Naming:
+    """Of one picture of a case its marks at the last opening, and the accepted jobs since and before."""
+
+    def __init__(self, one):
+        self.before = list(one.marks)
+        self.jobs = [[] for _ in one.marks]
+        self.older = [None] * len(one.marks)        # whose samples stand where nothing came since the opening
+
+    def open(self):
+        self.older = [last_word(*given)[1] or older for given, older in zip(zip(self.before, self.jobs), self.older)]
+        self.before = [0] * len(self.before)
+        self.jobs = [[] for _ in self.before]
+
+    def accept(self, job, is_full, about):
+        for k in range(job.first, job.first + job.count):
+            self.jobs[k].append((is_full, about))
+
+    def marks(self):
+        return [last_word(*given)[0] for given in zip(self.before, self.jobs)]
+
+    def deciding(self, k):
+        return last_word(self.before[k], self.jobs[k])[1] or self.older[k] if k < len(self.jobs) else None
+
+
 def test_any_table():
-    """Every case: the last accepted job that named a row pair decides its samples, by the table as it was then."""
+    """Every case: of the accepted jobs that named a row pair one decides its samples, by the table as it was then."""
     for night in table_nights():
-        last = [{}, {}]
+        naming = [Naming(one) for one in night.case.pictures]
         for step, line, plan, table, _ in night.walk():
             if step.kind == answers.SHOW:
                 assert line == answers.decimal(table[step.fields[0]:step.fields[1]])
+            if step.kind == answers.OPEN and line.startswith("open"):
+                naming[step.fields[0]].open()
             if step.kind in JOBS and not line.startswith("refused"):
                 picture, job = job_of(step)
-                for k in range(job.first, job.first + job.count):
-                    last[picture][k] = plan, table if step.kind == answers.TABLE_JOB else None, night.lent(job)
+                lent, by = night.lent(job), table if step.kind == answers.TABLE_JOB else None
+                naming[picture].accept(job, brings_all(plan, lent[1]), (plan, by, lent))
+                after = naming[picture].marks()
+                assert line == job_line(after.count(0), after.count(2))
         for picture, one in enumerate(night.case.pictures):
+            assert night.marks[picture] == naming[picture].marks()
             for at, sample in enumerate(answers.untouched_output(one.output_size)):
-                k = place_of(night.case.plan, at)[1]
-                if k in last[picture]:
-                    plan, table, lent = last[picture][k]
+                deciding = naming[picture].deciding(place_of(night.case.plan, at)[1])
+                if deciding is not None:
+                    plan, table, lent = deciding
                     sample = composed_sample(plan, at, *lent) if table is None else looked_up(plan, table, at, *lent)
                 assert night.outputs[picture][at] == sample
 
@@ -1947,7 +2145,7 @@ class Folder:
 
     def said(self, *names, standby=False):
         """The lines, with the names as they were put."""
-        given = [name if name == picture.NONE else self.path(name) for name in names]
+        given = [name if name in (picture.NONE, picture.LATE) else self.path(name) for name in names]
         lines = picture.answer(["--standby"] * standby + given)
         return [line.replace(self.path(""), "") for line in lines]
 
@@ -1970,9 +2168,9 @@ def test_compose_file():
         assert folder.said("block", "base", "none", "out") == [first, "out: 1 picture, " + adler, "written"]
         assert picture.contents(folder.path("out")) == raw(*(4 * s for s in base))
         assert folder.said("block", "base", "none", "out", standby=True) == [
-            first, "picture 0, row pairs 0 to 4", "job, 2 row pairs from 0: 3 row pairs left",
-            "standby; the jobs in flight are sent again", "job, 2 row pairs from 0: 3 row pairs left",
-            "job, 3 row pairs from 2: complete", "out: 1 picture, " + adler, "written"]
+            first, "picture 0, row pairs 0 to 4", "job, 2 row pairs from 0: 3 row pairs left, 2 base only",
+            "standby; the jobs in flight are sent again", "job, 2 row pairs from 0: 3 row pairs left, 2 base only",
+            "job, 3 row pairs from 2: complete, 5 base only", "out: 1 picture, " + adler, "written"]
         assert folder.left() == ["base", "block", "out"]
         # Luma has 20 samples, Cb and Cr five each: 27 is Cr of row 2.
         folder.put("large", raw(*base, *base[:27], 1024, 9999, 1))
@@ -1990,6 +2188,65 @@ def test_compose_file():
             "not written"]
         assert folder.said("block", "base", "none", "out", "block")[-2:] == [picture.USE, "not written"]
         assert folder.left() == ["base", "block", "large", "out", "out.part"]
+
+
+def test_compose_late():
+    """By hand: 10 bit code s comes to 4s, and one above the offset 114 / 16 more, rounded: 4s + 7."""
+    base = list(range(100, 130))
+    early, full = raw(*(4 * s for s in base)), raw(*(4 * s + 7 for s in base))
+    late = ["picture 0, row pairs 0 to 4", "the enhancement is late",
+            "job without enhancement, 5 row pairs from 0: complete, 5 base only", "the enhancement has come",
+            "job, 2 row pairs from 0: complete, 3 base only", "standby; the jobs in flight are sent again",
+            "job without enhancement, 2 row pairs from 0: complete, 3 base only", "job, 3 row pairs from 2: complete"]
+    none = [line.replace("3 base", "5 base") for line in late[:-1]] + ["job, 3 row pairs from 2: complete, 5 base only"]
+    flagged = [line.split(", 5 base")[0].split(", 3 base")[0] for line in late]
+    with Folder() as folder:
+        folder.put("block", block.write(tall_plan(5)))
+        folder.put("flag", block.write(tall_plan(5, 1)))
+        folder.put("base", raw(*base))
+        folder.put("above", raw(*[513] * 30))
+        for block_name, enhancement, lines, shown, words_of in (
+                ("block", "above", late, early + full, "with enhancement"),
+                ("block", "none", none, early + early, "base only"),
+                ("flag", "above", flagged, early + early, "base only, as disable_residual_flag is 1")):
+            for standby in (False, True):
+                assert folder.said("--late", block_name, "base", enhancement, "out", standby=standby) == [
+                    "1 picture of 2 x 10, 10 bit to 12 bit, " + words_of, *lines,
+                    "out: 2 pictures, Adler-32 %d" % zlib.adler32(shown), "written"]
+                assert picture.contents(folder.path("out")) == shown
+        # Two pictures: each stands there twice, one after the other.
+        folder.put("bases", raw(*base, *base[::-1]))
+        folder.put("aboves", raw(*[513] * 60))
+        said = folder.said("--late", "block", "bases", "aboves", "out")
+        assert said[0].startswith("2 pictures of 2 x 10") and said[1:9] == late
+        assert said[9:-2] == ["picture 1" + late[0][9:]] + late[1:] and said[-2].startswith("out: 4 pictures, ")
+        turned = raw(*(4 * s for s in base[::-1])), raw(*(4 * s + 7 for s in base[::-1]))
+        assert picture.contents(folder.path("out")) == early + full + turned[0] + turned[1]
+        # A bad sample of the enhancement is found by the job that brings it: Cb 21 is of row pair 1, Cr 29 of 4.
+        for at, place, sent in ((21, "Cb row 1", 4), (29, "Cr row 4", 7)):
+            folder.put("large", raw(*[513] * at, 1024, *[513] * (29 - at)))
+            said = folder.said("--late", "block", "base", "large", "out")
+            assert said[1:-2] == late[:sent] and said[-1] == "not written"
+            assert said[-2].startswith("large: refused 11 (sample): picture 0, %s column 0 is 1024" % place)
+        assert folder.said("--late", "block", "large", "large", "out")[1:-2] == late[:2]
+        assert folder.left() == ["above", "aboves", "base", "bases", "block", "flag", "large", "out"]
+        assert len(picture.contents(folder.path("out"))) == 240
+
+
+def test_groups():
+    """--late stands before a group and is none of its words; what is no whole group is left over."""
+    four, other = ["a", "b", "c", "d"], ["e", "f", "g", "h"]
+    assert picture.groups([]) == ([], [])
+    assert picture.groups(four + other) == ([(False, four), (False, other)], [])
+    assert picture.groups(["--late"] + four + other) == ([(True, four), (False, other)], [])
+    assert picture.groups(four + ["--late"] + other) == ([(False, four), (True, other)], [])
+    assert picture.groups(["--late", "--late"] + four) == ([(True, ["--late", "a", "b", "c"])], ["d"])
+    assert picture.groups(["--late"] + four[:3]) == ([], ["--late"] + four[:3])
+    assert picture.groups(four + ["--late"]) == ([(False, four)], ["--late"])
+    assert picture.groups(["a", "--late", "c", "d"]) == ([(False, ["a", "--late", "c", "d"])], [])
+    for given in (["--late"], ["--standby"], ["--standby", "--late"], ["--late", "a", "b", "c"]):
+        assert list(picture.answer(given)) == [
+            "use: compose_file [--standby] [--late] BLOCK BASE ENHANCEMENT OUTPUT ...", "not written"]
 
 
 def test_compose_version_2():

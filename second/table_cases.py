@@ -6,7 +6,8 @@ that a filling that is refused but writes is seen where the table is shown; jobs
 samples than the accepted ones.
 
 SHOWS says which wrong programs each kind of case tells from the right one; selftest.py builds them (wrong_tables.py)
-and holds the cases to it.
+and holds the cases to it.  Where the enhancement comes late a table that is damaged between the jobs gives the row
+pairs that are written another value each time.
 """
 
 from collections import namedtuple
@@ -21,8 +22,10 @@ from composer import Plan, row_pair_samples
 from generator import Generator
 from limits import DEPTHS, HDR_DEPTHS, denominators
 from mmr_cases import visible_mmr_piece
-from night_cases import (BASE, BLOCK_PLAN, ENHANCEMENT, LARGEST_MARKS, LARGEST_RUN, OTHER, TICKETS, ZERO_PLAN, Stock,
-                         mixed_jobs, other_ticket, plain_stock, random_night, random_stock, spoiled)
+from night_cases import (AFTER_STANDBY, BASE, BLOCK_PLAN, COUNTS, ENHANCEMENT, FULL_JOBS, IN_PART, IN_PARTS, KEEPING,
+                         LARGEST_MARKS, LARGEST_RUN, LATE_MARKS, OTHER, READINGS, REFUSED, THEN_THERE, TICKETS,
+                         ZERO_PLAN, Stock, bad_in, in_turn, late_jobs, lately, mixed_jobs, other_ticket, plain_stock,
+                         random_night, random_stock, spoiled, with_it, without_it)
 from places import changed
 from sample_cases import (Section, extreme_coefficients, make_plan, plain_sections, random_picture, replaced, vernier,
                           visible_piece)
@@ -40,6 +43,12 @@ ORDER_OF_13 = ("13 before 9", "13 before 9 in filling", "the table's length afte
 PARTS = ("Cb looked up in Cr's part", "Cr looked up in Cb's part", "luma's part for all", "parts luma, Cr, Cb")
 CUTS = ("values cut to the output's depth", "values shifted to the output's depth", "values held below 2^out",
         "values without their last bit")
+
+
+def late(*names):
+    """Wrong programs of wrong_nights.py, as wrong_tables.py names them."""
+    return tuple("late: " + name for name in names)
+
 
 SHOWS = {
     "worked case": ("rows left subtracted", "marks not written", "rows left of the marks before"),
@@ -83,9 +92,23 @@ SHOWS = {
     "another depth": ("the length compared with 3,072", "the length compared with 768", "a shorter table taken",
                       "a longer table taken"),
     "mixed night": ("rows left subtracted", "marks not written", "8 not tested", "11 not tested", "0 row pairs taken",
-                    "rows left of the marks before", "the residual forgotten", "what was looked up is cleared"),
+                    "rows left of the marks before", "the residual forgotten", "what was looked up is cleared")
+    + late(*KEEPING, *COUNTS, "full skips mark 2", "full leaves mark 2", "full marked 2"),
     "two pictures": ("rows left subtracted", "marks not written", "8 not tested", "what was looked up is cleared"),
     "any steps": ("the table not read", "the table filled first", "rows left of the marks before"),
+    "late": late(*KEEPING, *IN_PART, *FULL_JOBS, *COUNTS, *REFUSED, "base only marked 1",
+                 "all marks but 1 counted as base only"),
+    "late, flag 1": late("flag 1 without a run is base only", "flag 1 is base only"),
+    "late, damaged": late(*KEEPING, *IN_PART, *FULL_JOBS, *COUNTS, *REFUSED, "base only skips mark 2",
+                          "full skips mark 1", "full skips full marks") + ("the table not read",),
+    "late, refused between": late(*KEEPING, "kept row pairs left out of 11") + ("13 not tested", "13 after 11"),
+    "late, spoiled marks": late(
+        *KEEPING, *IN_PART, *READINGS, *FULL_JOBS, *COUNTS, *REFUSED, "base only skips mark 2", "full skips full marks",
+        "full skips mark 1", "full leaves full marks", "base only marked 1",
+        "all marks but 0 and 1 counted as base only", "kept row pairs left out of 11"),
+    "late, spoiled marks, flag 1": late(
+        "flag 1 without a run is base only", "flag 1 is base only", "no base only counted with flag 1",
+        "full skips full marks", "full leaves full marks"),
 }
 
 
@@ -180,14 +203,14 @@ def worked_cases(generator):
 # Fillings -------------------------------------------------------------------
 
 def filled_case(kind, stock):
-    """A filling, all of it shown; then the whole picture by both calls."""
+    """A filling, all of it shown; then the whole picture by both calls, and some of it with other samples."""
     script = Script(kind, stock)
     script.open()
     script.open(1)
     script.fill()
     script.show()
     script.both(stock.job(0, stock.rows))
-    script.both(stock.job(0, 1, enhancement=NO_RUN, base=OTHER))
+    script.both(stock.job(0, 1, base=OTHER))
     return script.case()
 
 
@@ -699,9 +722,9 @@ def two_pictures_night(at, generator):
     script.open()
     script.fill()
     script.open(1, ticket=ticket)
-    first = mixed_jobs(stock, set(range(rows)), generator.between(6, 14), generator)
-    second = [of_second(job, places, ticket)
-              for job in mixed_jobs(stock, set(range(rows)), generator.between(6, 14), generator)]
+    first, second = (lately(stock, mixed_jobs(stock, set(range(rows)), generator.between(6, 14), generator), generator)
+                     for _ in range(2))
+    second = [of_second(job, places, ticket) for job in second]
     while first or second:
         some_refused_step(script, generator)
         picture = generator.below(2) if first and second else 0 if first else 1
@@ -725,7 +748,7 @@ def free_night(at, generator):
                                stock.plan.picture_samples) for _ in range(2)]
     plans = [(stock.plan, 1), (random_like(stock, generator), 1), (with_mmr(stock, [(1, 2)], generator), 2)]
     now = 0
-    for job in mixed_jobs(stock, set(range(rows)), generator.between(10, 24), generator):
+    for job in lately(stock, mixed_jobs(stock, set(range(rows)), generator.between(10, 24), generator), generator):
         kind = generator.below(10)
         if kind == 0:
             now = generator.below(3)
@@ -761,6 +784,104 @@ def rules_by_plan(stock, job, plan):
     return (shown, 13)
 
 
+# The enhancement comes late -------------------------------------------------
+
+def late_script(kind, stock, marks=None):
+    """A filled table and two pictures; where marks are given no opening clears them."""
+    script = Script(kind, stock)
+    script.fill()
+    if marks is not None:
+        script.pictures = [Picture(list(marks), stock.plan.picture_samples)] * 2
+    for picture in (0, 1):
+        script.open(picture, *([] if marks is None else [ZERO_PLAN]), number=0 if marks is None else 7)
+    return script
+
+
+def late_cases(generator):
+    """The sequences of night_vectors: by the table call on one picture; by both calls in turn on the other."""
+    cases = []
+    for at, sequence in enumerate(THEN_THERE[:5] + IN_PARTS + AFTER_STANDBY):
+        flag = int(at % 6 == 5)
+        stock = plain_stock(DEPTHS[at % 2], 19 + at % 5, HDR_DEPTHS[at // 2 % 2], 2, 16, generator, flag)
+        script = late_script("late" + ", flag 1" * flag, stock)
+        for turn, job in enumerate(late_jobs(stock, sequence)):
+            script.table(job)
+            (script.table if (turn + at) % 2 else script.plain)(job, 0, 1)
+        cases.append(script.case())
+    return cases
+
+
+def late_damaged_cases(generator):
+    """The table is damaged between jobs: what is kept has the values of before, what is written has those of now."""
+    cases = []
+    for at, (depth, d) in enumerate(((8, 17), (10, 22), (8, 26), (10, 29))):
+        sequences = (with_it((1, 1), (3, 1)) + without_it((0, 4), (0, 4)),
+                     without_it((0, 4)) + with_it((0, 1), (2, 1)) + without_it((0, 3), (1, 3)) + with_it((1, 1)),
+                     with_it((0, 4)) + without_it((0, 4), (1, 2)) + with_it((2, 1)) + without_it((2, 2)),
+                     with_it((0, 3)) + without_it((2, 2)) + with_it((1, 1)) + without_it((0, 4)))
+        stock = plain_stock(depth, d, HDR_DEPTHS[at % 2], 4, 8, generator)
+        for turn, sequence in enumerate(sequences):
+            script = late_script("late, damaged", stock)
+            for job in late_jobs(stock, sequence):
+                script.table(job)
+                script.table(job, 0, 1) if turn % 2 else script.plain(job, 0, 1)
+                begin = generator.below(script.size // 2)
+                script.damage(begin // 8 if turn < 2 else 0, script.size, generator.below(65536))
+            if turn == 1:
+                script.open(1)                          # all wait again: a job without enhancement writes them
+                script.table(stock.job(0, 3, enhancement=NO_RUN), 0, 1)
+            cases.append(script.case())
+    return cases
+
+
+def late_refused_cases(generator):
+    """Refused table jobs without enhancement between others, by every rule; what is kept counts for 11."""
+    cases = []
+    for depth, d in ((8, 21), (10, 27)):
+        stock = plain_stock(depth, d, 12, 2, 8, generator)
+        script = late_script("late, refused between", stock)
+        bad = [bad_in(stock, k, generator) for k in range(4)]
+        for picture, first in ((0, stock.job(0, 3)), (1, stock.job(1, 1))):
+            script.table(first, 0, picture)
+            for k in range(4):
+                script.table(stock.job(0, 4, base=bad[k], enhancement=NO_RUN), 11, picture)
+            script.table(stock.job(1, 1, base=bad[1], enhancement=NO_RUN), 11, picture)
+            script.plain(stock.job(1, 1, base=bad[1], enhancement=NO_RUN), 11, picture)
+            script.table(stock.job(1, 1, base=bad[2], enhancement=NO_RUN), 0, picture)
+            for rules in ((7,), (8,), (10,), (8, 10)):
+                script.table(stock.breaking(rules, generator)._replace(enhancement=NO_RUN), rules[0], picture)
+            script.another(with_mmr(stock, [(2, 1)], generator), 2)
+            script.table(stock.job(1, 1, base=OTHER, enhancement=NO_RUN), 13, picture)
+            script.table(stock.job(1, 1, base=bad[1], enhancement=NO_RUN), 13, picture)
+            script.another(stock.plan, stock.version)
+        script.table(stock.job(0, 3, enhancement=NO_RUN), 0, 1)
+        cases.append(script.case())
+    return cases
+
+
+def late_spoiled_cases(generator):
+    """Marks of every sort that no opening cleared, and tables as they were lent: picture 0 without, picture 1 with."""
+    cases = []
+    for at, marks in enumerate(LATE_MARKS):
+        for flag in (0, 1):
+            stock = plain_stock(DEPTHS[at % 2], 20 + at, 12, 2, 16, generator, flag)
+            script = late_script("late, spoiled marks" + ", flag 1" * flag, stock, marks)
+            for job in late_jobs(stock, without_it((0, 8))):
+                script.table(job)
+            for job in late_jobs(stock, with_it((2, 3)) + without_it((1, 5)) + with_it((6, 2))):
+                script.table(job, 0, 1)
+            cases.append(script.case())
+            script = late_script("late, spoiled marks" + ", flag 1" * flag, stock, marks)
+            for job in late_jobs(stock, without_it(*in_turn(8)[at::2])):
+                script.table(job)
+            kept = next(k for k, mark in enumerate(marks) if mark not in (0, 2))
+            script.table(stock.job(0, 8, base=bad_in(stock, kept, generator), enhancement=NO_RUN), 11)
+            script.table(stock.job(kept, 1, enhancement=NO_RUN))
+            script.table(stock.job(0, 8), 0, 1)
+            cases.append(script.case())
+    return cases
+
+
 # ----------------------------------------------------------------------------
 
 def all_cases():
@@ -783,7 +904,11 @@ def all_cases():
             + other_depth_cases(Generator(815))
             + [mixed_night(at, Generator(820 + at)) for at in range(32)]
             + [two_pictures_night(at, Generator(860 + at)) for at in range(16)]
-            + [free_night(at, Generator(880 + at)) for at in range(12)])
+            + [free_night(at, Generator(880 + at)) for at in range(12)]
+            + late_cases(Generator(901))
+            + late_damaged_cases(Generator(902))
+            + late_refused_cases(Generator(903))
+            + late_spoiled_cases(Generator(904)))
 
 
 def lines_of(cases, lines):

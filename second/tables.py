@@ -8,15 +8,11 @@ import jobs
 import limits
 import nights
 from composer import assign_pivot_values, map_sample
+from jobs import first_met
 
 # The order in which the rules are tested, here and nowhere else: 13 stands directly after 9.
 FILLING_ORDER = (7, 9, 13)
 JOB_ORDER = (7, 8, 9, 13, 10, 11)
-
-
-def first_met(order, rules):
-    """The first rule of this order that is met, or 0; those after it are not asked, as they lean on it."""
-    return next((number for number in order if rules[number]()), 0)
 
 
 def breaks_rule_13(plan):
@@ -59,14 +55,12 @@ def fill_table(plan, table, order=FILLING_ORDER, rules=filling_rules, values=map
 
 # The second job call --------------------------------------------------------
 
-def job_rules(plan, table, open_ticket, ticket, first, count, base, enhancement, output, marks):
+def job_rules(plan, table, *lent):
     """What each rule of a table job asks: those of a job, the table's length, and rule 13."""
-    return {7: lambda: jobs.breaks_rule_7(plan),
-            8: lambda: jobs.breaks_rule_8(open_ticket, ticket),
-            9: lambda: jobs.breaks_rule_9(plan, base, enhancement, output, marks) or table_misfits(plan, table),
-            13: lambda: breaks_rule_13(plan),
-            10: lambda: jobs.breaks_rule_10(plan, first, count),
-            11: lambda: jobs.breaks_rule_11(plan, first, count, base, enhancement)}
+    of_a_job = jobs.rules(plan, *lent)
+    return {**of_a_job,
+            9: lambda: of_a_job[9]() or table_misfits(plan, table),
+            13: lambda: breaks_rule_13(plan)}
 
 
 def place_in_table(plan, cmp, s):
@@ -81,9 +75,9 @@ def looking_up(table):
 
 def table_job(plan, table, open_ticket, ticket, first, count, base, enhancement, output, marks,
               order=JOB_ORDER, rules=job_rules, look_up=looking_up, done=nights.compose_and_mark):
-    """Give (0, rows left) with the row pairs composed from the table, or (7 to 11 or 13, None).
+    """Give (0, the two counts) with row pairs composed from the table, or (7 to 11 or 13, None).
 
-    As in fill_table the last four are the right ones.
+    What it composes and marks is what the other call would.  As in fill_table the last four are the right ones.
     """
     number = first_met(order, rules(plan, table, open_ticket, ticket, first, count, base, enhancement, output, marks))
     if number != 0:

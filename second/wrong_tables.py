@@ -1,6 +1,7 @@
 """Programs with one mistake each about tables, by name: what table_vectors has to tell from the right one.
 
-table_cases.py says which kind of case shows which of them, and selftest.py holds it to that.
+table_cases.py says which kind of case shows which of them, and selftest.py holds it to that.  The mistakes about an
+enhancement that comes late (wrong_nights.py) are among them, each in the table job alone.
 """
 
 from collections import namedtuple
@@ -12,7 +13,9 @@ import nights
 import search_cases
 import tables
 import wrong_mappers
-from composer import assign_pivot_values, clamped, derive_pivot_idx, map_place, row_pair_samples
+import wrong_nights
+from composer import (assign_pivot_values, clamped, compose_chosen, derive_pivot_idx, map_place,
+                      row_pair_samples)
 from limits import table_values
 
 # A program is its two calls; the right one is the module tables.
@@ -224,27 +227,31 @@ def filled_first(plan, table, *lent):
 # What an accepted job does --------------------------------------------------
 
 def without_residual(plan, first, count, base, enhancement, output, marks, mapping):
-    return nights.compose_and_mark(plan, first, count, base, [], output, marks, mapping)
+    """It takes and marks the right row pairs, and leaves the residual out of their samples."""
+    row_pairs = nights.composed_by(plan, first, count, enhancement, marks)
+    counted = nights.compose_and_mark(plan, first, count, base, enhancement, output, marks, mapping)
+    output[:] = compose_chosen(plan, row_pairs, base, [], output, mapping)
+    return counted
 
 
 def subtracting(plan, first, count, base, enhancement, output, marks, mapping):
     """Rows left by what the job names, not by the marks: a job that comes again counts twice."""
-    before = nights.rows_left(marks)
-    nights.compose_and_mark(plan, first, count, base, enhancement, output, marks, mapping)
-    return max(before - count, 0)
+    before = nights.counted(marks).left
+    counted = nights.compose_and_mark(plan, first, count, base, enhancement, output, marks, mapping)
+    return counted._replace(left=max(before - count, 0))
 
 
 def counting_before(plan, first, count, base, enhancement, output, marks, mapping):
-    before = nights.rows_left(marks)
-    nights.compose_and_mark(plan, first, count, base, enhancement, output, marks, mapping)
-    return before
+    before = nights.counted(marks).left
+    counted = nights.compose_and_mark(plan, first, count, base, enhancement, output, marks, mapping)
+    return counted._replace(left=before)
 
 
 def not_marking(plan, first, count, base, enhancement, output, marks, mapping):
     before = list(marks)
-    left = nights.compose_and_mark(plan, first, count, base, enhancement, output, marks, mapping)
+    counted = nights.compose_and_mark(plan, first, count, base, enhancement, output, marks, mapping)
     marks[:] = bytes(before)
-    return left
+    return counted
 
 
 # Filling --------------------------------------------------------------------
@@ -403,4 +410,6 @@ WRONG = {
     "luma filled before 13": writing_before(13, 1),
     "the table cleared by a refusal": filling(clearing_filling),
     **{"filled: " + name: by_mapping(wrong_mappers.WRONG[name]) for name in MAPPINGS},
+    **{"late: " + name: job(**wrong_nights.parts_of(wrong, tables.job_rules))
+       for name, wrong in wrong_nights.MISTAKES.items()},
 }

@@ -1,5 +1,5 @@
 -- Two outcomes that a promise allows are equal: each promise is an equation, and what an answer says determines it. Assumes nothing.
-use mathlib.Core.Path.{_≡_, refl, sym, ap, _∙_}
+use mathlib.Core.Path.{_≡_, refl, sym, ap, ap₂, _∙_}
 use mathlib.Core.Bool.{true≢false}
 use lib.ListN.{getD}
 use Rattle.refusals.specs.Refusals.{Outcome}
@@ -30,6 +30,9 @@ same-number e = ap (λ (x : Outcome). x .number) e
 same-value : {o p : Outcome} → o ≡ p → getD (o .values) 0 0 ≡ getD (p .values) 0 0
 same-value e = ap (λ (x : Outcome). getD (x .values) 0 0) e
 
+second-value : {o p : Outcome} → o ≡ p → getD (o .values) 1 0 ≡ getD (p .values) 1 0
+second-value e = ap (λ (x : Outcome). getD (x .values) 1 0) e
+
 same-case : {o p : Outcome} → o ≡ p → o .refused ≡ p .refused
 same-case e = ap (λ (x : Outcome). x .refused) e
 
@@ -52,9 +55,9 @@ one-opened (opened.Refused k) (opened.Open t) e = absurd (true≢false (same-cas
 one-opened (opened.Refused k) (opened.Refused l) e = ap opened.Refused (same-number e)
 
 one-job : (r r' : Answer) → jobs.says r ≡ jobs.says r' → r ≡ r'
-one-job (answered.Done n) (answered.Done m) e = ap answered.Done (same-value e)
-one-job (answered.Done n) (answered.Refused k) e = absurd (true≢false (sym (same-case e)))
-one-job (answered.Refused k) (answered.Done n) e = absurd (true≢false (same-case e))
+one-job (answered.Done n u) (answered.Done m v) e = ap₂ answered.Done (same-value e) (second-value e)
+one-job (answered.Done n u) (answered.Refused k) e = absurd (true≢false (sym (same-case e)))
+one-job (answered.Refused k) (answered.Done n u) e = absurd (true≢false (same-case e))
 one-job (answered.Refused k) (answered.Refused l) e = ap answered.Refused (same-number e)
 
 one-filled : (r r' : Filling) → filling.says r ≡ filling.says r' → r ≡ r'
@@ -64,9 +67,9 @@ one-filled (filled.Refused k) filled.Filled e = absurd (true≢false (same-case 
 one-filled (filled.Refused k) (filled.Refused l) e = ap filled.Refused (same-number e)
 
 one-table-job : (r r' : TableAnswer) → table-jobs.says r ≡ table-jobs.says r' → r ≡ r'
-one-table-job (looked-up.Done n) (looked-up.Done m) e = ap looked-up.Done (same-value e)
-one-table-job (looked-up.Done n) (looked-up.Refused k) e = absurd (true≢false (sym (same-case e)))
-one-table-job (looked-up.Refused k) (looked-up.Done n) e = absurd (true≢false (same-case e))
+one-table-job (looked-up.Done n u) (looked-up.Done m v) e = ap₂ looked-up.Done (same-value e) (second-value e)
+one-table-job (looked-up.Done n u) (looked-up.Refused k) e = absurd (true≢false (sym (same-case e)))
+one-table-job (looked-up.Refused k) (looked-up.Done n u) e = absurd (true≢false (same-case e))
 one-table-job (looked-up.Refused k) (looked-up.Refused l) e = ap looked-up.Refused (same-number e)
 
 pub settled : Settled
@@ -104,6 +107,7 @@ leaves-settled =
       four = λ κs a r r' s s' p q. p .0 ∙ sym (q .0);
       four-put = λ κs a r r' s s' p q. p ∙ sym q;
       looked-up-output = λ κs a r r' s s' p q. p ∙ sym (q);
+      looked-up-in-step = λ κs a r r' s s' p q. p ∙ sym q;
       summed = λ κs a r r' s s' p q. p ∙ sym q;
       lowered-output = λ κs a r r' s s' p q. p ∙ sym q;
       cut-out = λ κs a r r' s s' p q. p ∙ sym q;
@@ -145,6 +149,13 @@ leaves-settled =
       speed-marks = λ κs a r r' s s' p q. p .1 .1 ∙ sym (q .1 .1);
       run-length = λ κs a r r' s s' p q. p ∙ sym q;
       composed-number = λ κs a r r' s s' p q. p ∙ sym q;
+      makes-full = λ κs a r r' s s' p q. p ∙ sym q;
+      marks-seen = λ κs a r r' s s' p q. p .0 ∙ sym (q .0);
+      cleared-marks = λ κs a r r' s s' p q. p ∙ sym q;
+      marked-marks = λ κs a r r' s s' p q. p ∙ sym q;
+      is-full = λ κs a r r' s s' p q. p ∙ sym q;
+      waiting = λ κs a r r' s s' p q. p ∙ sym q;
+      base-only = λ κs a r r' s s' p q. p ∙ sym q;
       written-number = λ κs a r r' s s' p q. p ∙ sym q;
       opened-number = λ κs a r r' s s' p q. p ∙ sym q;
       job-number = λ κs a r r' s s' p q. p ∙ sym q;

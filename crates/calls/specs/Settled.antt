@@ -37,7 +37,7 @@ pub record Settled : Type 0 where
   pub written-slice : OneContent write-promise.Post (λ c. now (c .left .1 .1 .0))
   pub length : OneAnswer length-promise.Post
   pub compose-row-pairs : OneAnswer compose-row-pairs-promise.Post
-  pub composed-output : OneContent compose-row-pairs-promise.Post (λ c. let pictures = c .left .1 .1 .1 in now (pictures .1 .1 .0))
+  pub composed-output : OneContent compose-row-pairs-promise.Post (λ c. let pictures = c .left .1 .1 .1 in now (pictures .1 .1 .1 .0))
   pub open-picture : OneAnswer open-picture-promise.Post
   pub opened-marks : OneContent open-picture-promise.Post marks-opened
   pub compose-job : OneAnswer compose-job-promise.Post
@@ -46,7 +46,7 @@ pub record Settled : Type 0 where
   pub fill-table : OneAnswer fill-table-promise.Post
   pub filled-table : OneContent fill-table-promise.Post table-filled
   pub compose-by-table : OneAnswer compose-by-table-promise.Post
-  pub composed-by-table : OneContent compose-by-table-promise.Post (λ c. let pictures = c .left .1 .1 .1 .1 in now (pictures .1 .1 .0))
+  pub composed-by-table : OneContent compose-by-table-promise.Post (λ c. let pictures = c .left .1 .1 .1 .1 in now (pictures .1 .1 .1 .0))
   pub compose-table-job : OneAnswer compose-table-job-promise.Post
   pub table-job-output : OneContent compose-table-job-promise.Post (λ c. table-done c .afterwards .output)
   pub table-job-marks : OneContent compose-table-job-promise.Post (λ c. table-done c .afterwards .marks)

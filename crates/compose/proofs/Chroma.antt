@@ -13,6 +13,8 @@ use Rattle.runs.specs.Runs.{painted, between}
 use Rattle.runs.specs.inner.Loops.{at}
 use Rattle.runs.proofs.Between.{between-true, in-between}
 use Rattle.runs.proofs.Painting.{painted-cong, painted-over}
+use Rattle.marks.specs.inner.Marks.{not-full}
+use Rattle.marks.proofs.Keeping.{not-full-named}
 use Rattle.standard.specs.Parameters.{Mmr, Mapping}
 use Rattle.standard.specs.Mapping.{pivot-value, pivot-idx}
 use Rattle.standard.specs.Mmr.{down-sampled, mmr, to-pivots, mmr-mapped, chroma-mapped}
@@ -20,7 +22,7 @@ use Rattle.picture.specs.declared.Extent.{Extent}
 use Rattle.picture.specs.declared.Plane.{Plane}
 use Rattle.picture.specs.Picture.{width, luma-size, chroma-size, picture-size}
 use Rattle.picture.specs.inner.Planes.{planes, luma-plane, cb-plane, cr-plane, row-start, in-rows}
-use Rattle.picture.proofs.Rows.{rows-between}
+use Rattle.picture.proofs.Rows.{rows-between, rows-same, rows-among}
 use Rattle.picture.proofs.Three.{luma-four}
 use Rattle.plan.specs.declared.Header.{Header}
 use Rattle.plan.specs.declared.Component.{Component}
@@ -226,15 +228,20 @@ module _ (p : Plan) (ok : fitting p ≡ true) (r : Rows) (base : List ℕ) where
             eq-eqb _ _ lo,
           )
 
-      pub both-painted : (output : List ℕ) (v1 v2 : ℕ → ℕ) → r .first ≤ r .last → length base ≡ picture-size e → length enhancement ≡ picture-size e → length output ≡ picture-size e
-          → ((i : ℕ) → in-rows (cb-plane e) (between (r .first) (r .last)) i ≡ true → cut-of (cut-numbers h) (cb-mapped p base i + entry raised1 (at enhancement i)) ≡ v1 i)
-          → ((i : ℕ) → in-rows (cr-plane e) (between (r .first) (r .last)) i ≡ true → cut-of (cut-numbers h) (cr-mapped p base i + entry raised2 (at enhancement i)) ≡ v2 i)
-          → chroma-after p (r .first) (r .last) raised1 raised2 (cut-numbers h) base enhancement output
-          ≡ painted (in-rows (cr-plane e) (between (r .first) (r .last))) v2 (painted (in-rows (cb-plane e) (between (r .first) (r .last))) v1 output)
-      unfolding chroma-after chroma-painted
-      both-painted output v1 v2 forward lb le lo is1 is2 =
-          rw (fits output forward lb le lo)
-          (painted-cong _ _ value value output (λ i b. sym (ap₂ _||_ (rows-between (cb-plane e) (r .first) (r .last) i (b1 .rows .some-columns)) (rows-between (cr-plane e) (r .first) (r .last) i (b2 .rows .some-columns)))) (λ i b t. refl)
-          ∙ sym (painted-over _ _ value output)
-          ∙ painted-cong _ _ value v2 _ (λ i b. refl) (λ i b t. cr-value i t ∙ is2 i t)
-          ∙ ap (painted _ v2) (painted-cong _ _ value v1 output (λ i b. refl) (λ i b t. cb-value i t ∙ is1 i t)))
+      -- with marks, by which those are not full that are selected
+      module _ (marks : List ℕ) (selected : ℕ → Bool) (by-marks : (k : ℕ) → not-full (r .first) (r .last) marks k ≡ selected k) where
+        named : (q : Plane) (i : ℕ) → in-rows q selected i ≡ true → in-rows q (between (r .first) (r .last)) i ≡ true
+        named q i t = rows-among q selected i _ (λ k s. not-full-named _ _ marks k (by-marks k ∙ s)) t
+
+        pub both-painted : (output : List ℕ) (v1 v2 : ℕ → ℕ) → r .first ≤ r .last → length base ≡ picture-size e → length enhancement ≡ picture-size e → length output ≡ picture-size e
+            → ((i : ℕ) → in-rows (cb-plane e) (between (r .first) (r .last)) i ≡ true → cut-of (cut-numbers h) (cb-mapped p base i + entry raised1 (at enhancement i)) ≡ v1 i)
+            → ((i : ℕ) → in-rows (cr-plane e) (between (r .first) (r .last)) i ≡ true → cut-of (cut-numbers h) (cr-mapped p base i + entry raised2 (at enhancement i)) ≡ v2 i)
+            → chroma-after p (r .first) (r .last) raised1 raised2 (cut-numbers h) marks base enhancement output
+            ≡ painted (in-rows (cr-plane e) selected) v2 (painted (in-rows (cb-plane e) selected) v1 output)
+        unfolding chroma-after chroma-painted
+        both-painted output v1 v2 forward lb le lo is1 is2 =
+            rw (fits output forward lb le lo)
+            (painted-cong _ _ value value output (λ i b. ap₂ _||_ (rows-same (cb-plane e) _ i selected by-marks) (rows-same (cr-plane e) _ i selected by-marks)) (λ i b t. refl)
+            ∙ sym (painted-over _ _ value output)
+            ∙ painted-cong _ _ value v2 _ (λ i b. refl) (λ i b t. let n = named (cr-plane e) i t in cr-value i n ∙ is2 i n)
+            ∙ ap (painted _ v2) (painted-cong _ _ value v1 output (λ i b. refl) (λ i b t. let n = named (cb-plane e) i t in cb-value i n ∙ is1 i n)))

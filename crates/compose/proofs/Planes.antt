@@ -10,11 +10,13 @@ use Rattle.runs.specs.Runs.{painted, between}
 use Rattle.runs.specs.inner.Loops.{at}
 use Rattle.runs.proofs.Between.{between-true}
 use Rattle.runs.proofs.Painting.{painted-cong}
+use Rattle.marks.specs.inner.Marks.{not-full}
+use Rattle.marks.proofs.Keeping.{not-full-named}
 use Rattle.standard.specs.Residual.{reconstructed}
 use Rattle.picture.specs.declared.Extent.{Extent}
 use Rattle.picture.specs.declared.Plane.{Plane}
 use Rattle.picture.specs.inner.Planes.{luma-plane, cb-plane, cr-plane, in-rows}
-use Rattle.picture.proofs.Rows.{rows-inside}
+use Rattle.picture.proofs.Rows.{rows-inside, rows-among}
 use Rattle.picture.proofs.Three.{in-luma-plane, in-cb-plane, in-cr-plane, luma-selected, cb-selected, cr-selected}
 use Rattle.plan.specs.declared.Header.{Header}
 use Rattle.plan.specs.declared.Nlq.{Nlq}
@@ -38,12 +40,14 @@ module _ (h : Header) (p : Plane) (r : Rows) (table base output : List ℕ) (m :
   abbrev rows : ℕ → Bool
   rows = in-rows p (between (r .first) (r .last))
 
-  pub plain-painted : looked-up-rows (finished-table h table) p r base output ≡ painted rows (plain-at h m) output
+  pub plain-painted : (marks : List ℕ) → looked-up-rows (finished-table h table) p r marks base output ≡ painted (in-rows p (not-full (r .first) (r .last) marks)) (plain-at h m) output
   unfolding looked-up plain-at
-  plain-painted =
-      all-looked-up p r base output b o _
-      ∙ painted-cong rows rows _ _ output (λ i l. refl)
-      (λ i l s. finished-found h fit table (at base i) (has .long i s) ∙ ap (λ (v : ℕ). reconstructed (hdr-depth h) v (pos 0)) (has .is i s))
+  plain-painted marks =
+      all-looked-up p r base output b o _ marks
+      ∙ painted-cong _ _ _ _ output (λ i l. refl)
+      (λ i l s.
+      let t = rows-among p _ i (between (r .first) (r .last)) (not-full-named _ _ marks) s in
+      finished-found h fit table (at base i) (has .long i t) ∙ ap (λ (v : ℕ). reconstructed (hdr-depth h) v (pos 0)) (has .is i t))
 
   pub enhanced-painted : (q : Nlq) → (header-fits h && nlq-fits h q) ≡ true → ((i : ℕ) → rows i ≡ true → m i ≤ 65535) → (enhancement : List ℕ) → CodesIn p r (2 ^ el-depth h) enhancement → added-up-rows table (residual-table h q) (cut-numbers h) p r base enhancement output ≡ painted rows (enhanced-at h enhancement q m) output
   unfolding added-up enhanced-at

@@ -1,5 +1,5 @@
 -- The composing process (5.4) over a picture: what stands at each index of the output after a call, and what it answers.
-use mathlib.Core.Bool.{Bool, cond}
+use mathlib.Core.Bool.{Bool, not, _&&_, _||_, cond}
 use mathlib.Core.List.{List, []}
 use Prim.Native.Nat.{ℕ, _+_, _-_, _*_, _/_, _%_, _^_}
 use lib.Dec.{eqb}
@@ -17,6 +17,7 @@ use Rattle.plan.specs.declared.Component.{Component}
 use Rattle.plan.specs.declared.Plan.{Plan}
 use Rattle.plan.specs.Ranges.{bl-depth, el-depth, hdr-depth}
 use Rattle.plan.specs.Parameters.{mapping, quantization}
+use Rattle.marks.specs.Marks.{full-at}
 use Rattle.rules.specs.Rules.{Source, by-plan, by-table, Given, extent, names, used, refusal}
 use Rattle.compose.specs.declared.Composed.{Composed}
 use Rattle.compose.specs.declared.Composed.the-variants.{Written, Refused}
@@ -77,15 +78,20 @@ composed-by s p base enhancement i = reconstructed (hdr-depth (p .header)) (mapp
 abbrev pub composed-at : Plan → List ℕ → List ℕ → ℕ → ℕ
 composed-at p base enhancement i = composed-by by-plan p base enhancement i
 
--- the row pairs that a call composes are those that it names
-abbrev pub composes : Given → ℕ → Bool
-composes g = names g
+-- R-6: a call makes full row pairs where the flag is 1 or an enhancement picture is used; otherwise they are base only
+unfoldable pub makes-full : Header → ℕ → Bool
+makes-full h enhancement-length = eqb (h .disabled) 1 || used h enhancement-length
+
+-- the row pairs that a call composes, by the marks that it sees: where it makes full ones all that it names, and otherwise those of
+-- them that are not full
+unfoldable pub composes : Given → List ℕ → ℕ → Bool
+composes g marks k = names g k && (makes-full (g .plan .header) (length (g .enhancement)) || not (full-at marks k))
 
 -- the output after the call: the row pairs that it composes, and every other sample as it was
-unfoldable pub output-after : Given → List ℕ → List ℕ
-output-after g output =
+unfoldable pub output-after : Given → List ℕ → List ℕ → List ℕ
+output-after g marks output =
     cond (eqb (refusal g (length output)) 0)
-    (painted (λ i. composes g (pair-at (extent (g .plan .header)) i)) (composed-by (g .source) (g .plan) (g .base) (g .enhancement)) output)
+    (painted (λ i. composes g marks (pair-at (extent (g .plan .header)) i)) (composed-by (g .source) (g .plan) (g .base) (g .enhancement)) output)
     output
 
 -- what each case of the answer says, and what the call answers

@@ -1,7 +1,7 @@
-// Composes pictures from files: compose_file [--standby] BLOCK BASE ENHANCEMENT OUTPUT ..., where ENHANCEMENT may be
-// `none`. Pictures are raw planar 4:2:0, two bytes a sample, the low byte first. What is said goes to standard
-// output, and the last line for each four words is `written` or `not written`; before `not written` stands why. The
-// command ./compose starts it.
+// Composes pictures from files: compose_file [--standby] [--late] BLOCK BASE ENHANCEMENT OUTPUT ..., where ENHANCEMENT
+// may be `none` and `--late` stands before each four words for which the enhancement comes late. Pictures are raw
+// planar 4:2:0, two bytes a sample, the low byte first. What is said goes to standard output, and the last line for
+// each four words is `written` or `not written`; before `not written` stands why. The command ./compose starts it.
 mod night; // the jobs of one band
 mod pictures; // all bands of all pictures
 
@@ -10,12 +10,15 @@ use files::is_readable;
 use files::is_word;
 use files::load_end;
 use picture_files::group::Names;
+use picture_files::schedule::Way;
+use picture_files::schedule::way_of;
 use pictures::compose_plan;
 use saying::say;
 use saying::say_refusal;
 use saying::say_unread;
+ghost use Prim.Native.Nat.{_<_, _≤_};
 
-fn compose_block(names: Names, standby: bool, bytes: &[u8]) -> bool {
+fn compose_block(names: Names, way: Way, bytes: &[u8]) -> bool {
     let reading = block::read(bytes);
     if reading.number != 0 {
         let field = reading.field;
@@ -23,10 +26,10 @@ fn compose_block(names: Names, standby: bool, bytes: &[u8]) -> bool {
         return false;
     }
     let plan = reading.plan;
-    compose_plan(names, standby, plan)
+    compose_plan(names, way, plan)
 }
 
-fn compose_group(names: Names, standby: bool) -> bool {
+fn compose_group(names: Names, way: Way) -> bool {
     let mut bytes = [0u8; BLOCK_ROOM];
     let n = load_end(names.block, &mut bytes);
     if n == 0 {
@@ -35,11 +38,11 @@ fn compose_group(names: Names, standby: bool) -> bool {
             return false;
         }
     }
-    compose_block(names, standby, &bytes[..n])
+    compose_block(names, way, &bytes[..n])
 }
 
 fn say_use() {
-    say(b"use: compose_file [--standby] BLOCK BASE ENHANCEMENT OUTPUT ...\nnot written\n");
+    say(b"use: compose_file [--standby] [--late] BLOCK BASE ENHANCEMENT OUTPUT ...\nnot written\n");
 }
 
 fn say_end(written: bool) {
@@ -48,6 +51,14 @@ fn say_end(written: bool) {
     } else {
         say(b"not written\n");
     }
+}
+
+// The first of the four words of a group that begins at word i, with `--late` where it is late.
+fn first_of(late: bool, i: usize, words: usize) -> usize
+    requires { ⌜ i < words ⌝ }
+    ensures { λ r. ⌜ (i ≤ r) × (r ≤ words) ⌝ }
+{
+    if late { i + 1 } else { i }
 }
 
 fn main() {
@@ -59,18 +70,20 @@ fn main() {
         return;
     }
     while i < words {
-        if words - i < 4 {
+        let late = is_word(i, b"--late");
+        let first = first_of(late, i, words);
+        if words - first < 4 {
             say_use();
             return;
         }
         let names = Names {
-            block: i,
-            base: i + 1,
-            enhancement: i + 2,
-            output: i + 3,
+            block: first,
+            base: first + 1,
+            enhancement: first + 2,
+            output: first + 3,
         };
-        let written = compose_group(names, standby);
+        let written = compose_group(names, way_of(standby, late));
         say_end(written);
-        i += 4;
+        i = first + 4;
     }
 }

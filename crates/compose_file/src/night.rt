@@ -1,4 +1,4 @@
-// The jobs of one band, which is opened as a picture of its own height. With --standby each of them is said.
+// The jobs of one band, which is opened as a picture of its own height. With --standby or --late each of them is said.
 use jobs::Answer;
 use jobs::Opened;
 use jobs::compose_job;
@@ -9,8 +9,12 @@ use picture_files::bands::Band;
 use picture_files::group::Names;
 use picture_files::say_sample;
 use picture_files::schedule::Named;
+use picture_files::schedule::Way;
+use picture_files::schedule::come_at;
+use picture_files::schedule::is_bare;
+use picture_files::schedule::is_late;
+use picture_files::schedule::is_said;
 use picture_files::schedule::job_at;
-use picture_files::schedule::jobs_of;
 use picture_files::schedule::standby_at;
 use plan::Plan;
 use saying::say;
@@ -20,7 +24,7 @@ use saying::say_number;
 pub(crate) struct Task {
     pub(crate) names: Names,
     pub(crate) band: Band,
-    pub(crate) standby: bool,
+    pub(crate) way: Way,
 }
 
 // How far a band is after a job.
@@ -47,7 +51,7 @@ fn wide(x: u16) -> usize {
 }
 
 // A call's result is known to be 16 bits wide, where a struct's number is not.
-fn count_of(band: Band) -> u16 {
+pub(crate) fn count_of(band: Band) -> u16 {
     band.count
 }
 
@@ -67,28 +71,63 @@ pub(crate) fn pairs_in(band: Band) -> usize {
     wide(band.count)
 }
 
-fn say_answer(answer: Answer) {
-    if is_complete(answer) {
-        say(b": complete\n");
+// The row pairs that are base only, where there are any.
+fn say_base_only(count: usize) {
+    if count == 0 {
         return;
     }
-    if let Answer::Done(left) = answer {
-        say(b": ");
-        say_number(left);
-        say(b" row pairs left\n");
-    }
+    say(b", ");
+    say_number(count);
+    say(b" base only");
 }
 
-// Sends one job, whose row pairs count from the band's first.
+fn say_answer(answer: Answer) {
+    let Answer::Done(left, base_only) = answer else {
+        return;
+    };
+    if is_complete(answer) {
+        say(b": complete");
+    } else {
+        say(b": ");
+        say_number(left);
+        say(b" row pairs left");
+    }
+    say_base_only(base_only);
+    say(b"\n");
+}
+
+fn say_job(band: Band, j: Named, bare: bool) {
+    if bare {
+        say(b"job without enhancement, ");
+    } else {
+        say(b"job, ");
+    }
+    say_number(wide(j.count));
+    say(b" row pairs from ");
+    say_number(in_picture(band.first, j.first));
+}
+
+// What a job is given of the enhancement.
+fn given<'a>(bare: bool, enhancement: &'a [u16]) -> &'a [u16] {
+    if bare {
+        return &enhancement[..0];
+    }
+    enhancement
+}
+
+// Sends one job, whose row pairs count from the band's first; a bare one goes without the enhancement.
 fn send(
     t: Task,
     plan: Plan,
     j: Named,
+    bare: bool,
     base: &[u16],
     enhancement: &[u16],
     output: &mut [u16],
     marks: &mut [u8],
 ) -> u8 {
+    let way = t.way;
+    let brought = given(bare, enhancement);
     let answer = compose_job(
         plan,
         1,
@@ -96,38 +135,45 @@ fn send(
         wide(j.first),
         wide(j.count),
         base,
-        enhancement,
+        brought,
         output,
         marks,
     );
     let refusal = number(answer);
     if refusal != 0 {
-        say_sample(t.names, t.band, plan.header, refusal, j, base, enhancement);
+        say_sample(t.names, t.band, plan.header, refusal, j, base, brought);
         return REFUSED;
     }
-    if t.standby {
-        say_job(t.band, j);
+    if is_said(way) {
+        say_job(t.band, j, bare);
         say_answer(answer);
     }
     state_of(answer)
 }
 
-fn say_job(band: Band, j: Named) {
-    say(b"job, ");
-    say_number(wide(j.count));
-    say(b" row pairs from ");
-    say_number(in_picture(band.first, j.first));
+// What is said of the enhancement before job k of a late group.
+fn say_late(n: u16, k: u16) {
+    if k == 0 {
+        say(b"the enhancement is late\n");
+    }
+    if k == come_at(Way::Late, n) {
+        say(b"the enhancement has come\n");
+    }
 }
 
-// What is said before job k: the band, and the standby.
-fn say_before(standby: bool, band: Band, k: u16) {
-    if !standby {
+// What is said before job k: the band, whether the enhancement is there, and the standby.
+fn say_before(way: Way, band: Band, k: u16) {
+    if !is_said(way) {
         return;
     }
     if k == 0 {
         say_band(band);
     }
-    if k == standby_at(count_of(band)) {
+    let n = count_of(band);
+    if is_late(way) {
+        say_late(n, k);
+    }
+    if k == standby_at(way, n) {
         say(b"standby; the jobs in flight are sent again\n");
     }
 }
@@ -142,27 +188,35 @@ fn say_band(band: Band) {
     say(b"\n");
 }
 
-// Opens the band, as a picture of its height, and sends its jobs.
-pub(crate) fn send_band(
+// Opens the band, as a picture of its height.
+pub(crate) fn open_band(plan: Plan, marks: &mut [u8]) -> bool {
+    let Opened::Open(_) = open_picture(plan, 1, marks) else {
+        say(b"the picture cannot be opened\n");
+        return false;
+    };
+    true
+}
+
+// Sends the band's jobs from number `from` up to number `to`.
+pub(crate) fn send_jobs(
     t: Task,
     plan: Plan,
+    from: u16,
+    to: u16,
     base: &[u16],
     enhancement: &[u16],
     output: &mut [u16],
     marks: &mut [u8],
 ) -> u8 {
-    let Opened::Open(_) = open_picture(plan, 1, marks) else {
-        say(b"the picture cannot be opened\n");
-        return REFUSED;
-    };
+    let way = t.way;
     let count = count_of(t.band);
-    let jobs = jobs_of(t.standby, count);
     let mut state = ACCEPTED;
-    let mut k: u16 = 0;
-    while k < jobs {
-        say_before(t.standby, t.band, k);
-        let j = job_at(t.standby, count, k);
-        state = send(t, plan, j, base, enhancement, output, marks);
+    let mut k = from;
+    while k < to {
+        say_before(way, t.band, k);
+        let j = job_at(way, count, k);
+        let bare = is_bare(way, count, k);
+        state = send(t, plan, j, bare, base, enhancement, output, marks);
         if state == REFUSED {
             return REFUSED;
         }

@@ -1,8 +1,10 @@
 // All bands of all pictures that the four words name.
 use crate::night::COMPLETE;
 use crate::night::Task;
+use crate::night::count_of;
+use crate::night::open_band;
 use crate::night::pairs_in;
-use crate::night::send_band;
+use crate::night::send_jobs;
 use picture::chroma_size;
 use picture_files::bands::BAND;
 use picture_files::bands::Band;
@@ -12,9 +14,14 @@ use picture_files::opened::Files;
 use picture_files::opened::close_files;
 use picture_files::opened::load_runs;
 use picture_files::opened::open_files;
+use picture_files::opened::store_early;
 use picture_files::opened::store_run;
 use picture_files::progress::end_progress;
 use picture_files::progress::say_progress;
+use picture_files::schedule::Way;
+use picture_files::schedule::come_at;
+use picture_files::schedule::is_late;
+use picture_files::schedule::jobs_of;
 use plan::Header;
 use plan::Plan;
 use plan::limits::MOST_PAIRS;
@@ -28,7 +35,69 @@ fn of_height(plan: Plan, pairs: u16) -> Plan {
     band
 }
 
-// Loads the band, sends its jobs, and stores it where it is complete.
+// Of a late group: sends the jobs that go before the enhancement comes, and stores the band as it then is.
+fn compose_early(
+    t: Task,
+    plan: Plan,
+    f: Files,
+    base: &[u16],
+    enhancement: &[u16],
+    output: &mut [u16],
+    marks: &mut [u8],
+) -> bool {
+    let way = t.way;
+    if !is_late(way) {
+        return true;
+    }
+    let to = come_at(way, count_of(t.band));
+    let state = send_jobs(t, plan, 0, to, base, enhancement, output, marks);
+    if state != COMPLETE {
+        return false;
+    }
+    store_early(t.names, t.band, f, output)
+}
+
+// Sends the jobs from then on, of any other group all of them, and stores the band where it is complete.
+fn compose_rest(
+    t: Task,
+    plan: Plan,
+    f: Files,
+    base: &[u16],
+    enhancement: &[u16],
+    output: &mut [u16],
+    marks: &mut [u8],
+) -> bool {
+    let way = t.way;
+    let count = count_of(t.band);
+    let from = come_at(way, count);
+    let to = jobs_of(way, count);
+    let state = send_jobs(t, plan, from, to, base, enhancement, output, marks);
+    if state != COMPLETE {
+        return false;
+    }
+    store_run(t.names, way, t.band, f, output)
+}
+
+// Opens the band that is loaded, sends its jobs and stores it.
+fn compose_loaded(
+    t: Task,
+    plan: Plan,
+    f: Files,
+    base: &[u16],
+    enhancement: &[u16],
+    output: &mut [u16],
+    marks: &mut [u8],
+) -> bool {
+    if !open_band(plan, marks) {
+        return false;
+    }
+    if !compose_early(t, plan, f, base, enhancement, output, marks) {
+        return false;
+    }
+    compose_rest(t, plan, f, base, enhancement, output, marks)
+}
+
+// Loads the band and composes it.
 fn compose_runs(
     t: Task,
     plan: Plan,
@@ -41,11 +110,7 @@ fn compose_runs(
     if !load_runs(t.names, t.band, f, base, enhancement) {
         return false;
     }
-    let state = send_band(t, plan, base, enhancement, output, marks);
-    if state != COMPLETE {
-        return false;
-    }
-    store_run(t.names, t.band, f, output)
+    compose_loaded(t, plan, f, base, enhancement, output, marks)
 }
 
 // No more than there is room for. Were that ever less than the band has, its job would be refused by rule 9.
@@ -97,7 +162,7 @@ fn pairs_of(h: Header) -> u16 {
 // One picture, which begins at a byte of the files.
 fn compose_picture(
     names: Names,
-    standby: bool,
+    way: Way,
     plan: Plan,
     f: Files,
     picture: usize,
@@ -123,7 +188,7 @@ fn compose_picture(
         let t = Task {
             names: names,
             band: band,
-            standby: standby,
+            way: way,
         };
         let part = of_height(plan, count);
         if !compose_band(
@@ -144,11 +209,11 @@ fn compose_picture(
 }
 
 // All pictures.
-fn compose_pictures(names: Names, standby: bool, plan: Plan, f: Files) -> bool {
+fn compose_pictures(names: Names, way: Way, plan: Plan, f: Files) -> bool {
     let mut start: usize = 0;
     let mut picture: usize = 0;
     while picture < f.pictures {
-        if !compose_picture(names, standby, plan, f, picture, start) {
+        if !compose_picture(names, way, plan, f, picture, start) {
             return false;
         }
         start = wrapping_add_usize(start, f.size);
@@ -159,12 +224,12 @@ fn compose_pictures(names: Names, standby: bool, plan: Plan, f: Files) -> bool {
 
 // Composes what the four words name, by the plan that the block gave; false, having said why, where nothing was
 // written.
-pub(crate) fn compose_plan(names: Names, standby: bool, plan: Plan) -> bool {
+pub(crate) fn compose_plan(names: Names, way: Way, plan: Plan) -> bool {
     let f = open_files(names, plan.header);
     if f.pictures == 0 {
         return false;
     }
-    let whole = compose_pictures(names, standby, plan, f);
+    let whole = compose_pictures(names, way, plan, f);
     end_progress();
-    close_files(names, f, whole)
+    close_files(names, way, f, whole)
 }

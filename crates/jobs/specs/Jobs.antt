@@ -11,7 +11,8 @@ use Rattle.picture.specs.Picture.{pair-at}
 use Rattle.plan.specs.declared.Plan.{Plan}
 use Rattle.plan.specs.Rule7.{fitting}
 use Rattle.rules.specs.Rules.{Given, given, given-table, extent, names, rules}
-use Rattle.compose.specs.Composing.{composes, composed-by}
+use Rattle.marks.specs.Marks.{waits, base-only, full-at}
+use Rattle.compose.specs.Composing.{makes-full, composes, composed-by}
 use Rattle.jobs.specs.declared.Opened.{Opened}
 use Rattle.jobs.specs.declared.Opened.the-variants as opened
 use Rattle.jobs.specs.declared.Answer.{Answer}
@@ -69,28 +70,38 @@ accepted j output-length marks-length = eqb (job-refusal j output-length marks-l
 abbrev pub sample : Job → ℕ → ℕ
 sample j = composed-by (j .work .source) (j .work .plan) (j .work .base) (j .work .enhancement)
 
--- an accepted job composes its row pairs and marks those that it names, and writes nothing else
+-- R-6: a job makes full row pairs where the flag is 1 or it brings an enhancement that is used, and base-only ones otherwise
+abbrev pub is-full : Job → Bool
+is-full j = makes-full (j .work .plan .header) (length (j .work .enhancement))
+
+-- an accepted job composes row pairs that it names and marks them, 1 as full or 2 as base only, and writes nothing else; one that
+-- makes base-only ones keeps those that are full
 unfoldable pub output-after : Job → List ℕ → List ℕ → List ℕ
 output-after j output marks =
     cond (accepted j (length output) (length marks))
-    (painted (λ i. composes (j .work) (pair-at (extent (j .work .plan .header)) i)) (sample j) output)
+    (painted (λ i. composes (j .work) marks (pair-at (extent (j .work .plan .header)) i)) (sample j) output)
     output
 
 unfoldable pub marks-after : Job → List ℕ → List ℕ → List ℕ
-marks-after j output marks = cond (accepted j (length output) (length marks)) (painted (names (j .work)) (λ k. 1) marks) marks
+marks-after j output marks =
+    cond (accepted j (length output) (length marks)) (painted (composes (j .work) marks) (λ k. cond (is-full j) 1 2) marks) marks
 
--- what each case of the answer says: done, with the rows left, or refused, with the number alone
+-- what each case of the answer says: done, with the rows left and the base-only ones, or refused, with the number alone
 abbrev pub says : Answer → Outcome
-says (Done left) = granted (left ∷ [])
+says (Done left base-only) = granted (left ∷ base-only ∷ [])
 says (Refused k) = denied k
 
--- rows left: the marks that are 0 after the job; any other value is done
+-- rows left are the marks that wait after the job, and beside them stand those that are base only
 unfoldable pub job-answer : Job → List ℕ → List ℕ → Outcome
 job-answer j output marks =
-    outcome (job-refusal j (length output) (length marks)) (tally (λ mark. eqb mark 0) (marks-after j output marks) ∷ [])
+    let after = marks-after j output marks in
+    outcome (job-refusal j (length output) (length marks)) (tally waits after ∷ tally base-only after ∷ [])
 
 abbrev pub rows-left : Outcome → ℕ
 rows-left o = getD (o .values) 0 0
+
+abbrev pub rows-base-only : Outcome → ℕ
+rows-base-only o = getD (o .values) 1 0
 
 -- complete is said exactly where the job is done and no row pair is left
 abbrev pub complete : Outcome → Bool
@@ -98,8 +109,11 @@ complete o = not (o .refused) && eqb (rows-left o) 0
 
 -- demand 2, of every job
 pub record EverySample : Type 0 where
-  -- each sample of the row pairs that an accepted job names
-  pub named : (j : Job) (output marks : List ℕ) → accepted j (length output) (length marks) ≡ true → (i : ℕ) → i < length output → names (j .work) (pair-at (extent (j .work .plan .header)) i) ≡ true → getD (output-after j output marks) i 0 ≡ sample j i
+  -- each sample of the row pairs that an accepted job composes
+  pub composed : (j : Job) (output marks : List ℕ) → accepted j (length output) (length marks) ≡ true → (i : ℕ) → i < length output → composes (j .work) marks (pair-at (extent (j .work .plan .header)) i) ≡ true → getD (output-after j output marks) i 0 ≡ sample j i
   -- every other sample is as it was, and so is every sample where the job is refused
-  pub others : (j : Job) (output marks : List ℕ) (i : ℕ) → i < length output → names (j .work) (pair-at (extent (j .work .plan .header)) i) ≡ false → getD (output-after j output marks) i 0 ≡ getD output i 0
+  pub others : (j : Job) (output marks : List ℕ) (i : ℕ) → i < length output → composes (j .work) marks (pair-at (extent (j .work .plan .header)) i) ≡ false → getD (output-after j output marks) i 0 ≡ getD output i 0
   pub refused : (j : Job) (output marks : List ℕ) → accepted j (length output) (length marks) ≡ false → output-after j output marks ≡ output
+  -- R-6: a job that makes base-only row pairs keeps the full ones, samples and marks
+  pub kept-samples : (j : Job) (output marks : List ℕ) (i : ℕ) → i < length output → is-full j ≡ false → full-at marks (pair-at (extent (j .work .plan .header)) i) ≡ true → getD (output-after j output marks) i 0 ≡ getD output i 0
+  pub kept-marks : (j : Job) (output marks : List ℕ) (k : ℕ) → k < length marks → is-full j ≡ false → full-at marks k ≡ true → getD (marks-after j output marks) k 0 ≡ getD marks k 0

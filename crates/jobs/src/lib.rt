@@ -2,9 +2,11 @@
 pub mod early; // the rules before any picture is looked at
 
 use compose::compose_row_pairs;
+use compose::makes_full;
 use early::is_marked;
 use early::opening_number_of;
 use early::seven_or;
+use marks::base_only;
 use marks::clear;
 use marks::mark;
 use marks::waiting;
@@ -19,9 +21,9 @@ pub enum Opened {
     Refused(u8),
 }
 
-// A job is done, with the row pairs that still wait, or is refused by a number.
+// A job is done, with the row pairs that still wait and those that are base only, or is refused by a number.
 pub enum Answer {
-    Done(usize),
+    Done(usize, usize),
     Refused(u8),
 }
 
@@ -40,7 +42,7 @@ pub fn number(answer: Answer) -> u8
     ensures { λ r. ⌜ r ≡ says answer .number ⌝ }
 {
     match answer {
-        Answer::Done(_) => 0,
+        Answer::Done(_, _) => 0,
         Answer::Refused(k) => k,
     }
 }
@@ -50,7 +52,7 @@ pub fn is_complete(answer: Answer) -> bool
     ensures { λ r. ⌜ r ≡ complete (says answer) ⌝ }
 {
     match answer {
-        Answer::Done(rows_left) => rows_left == 0,
+        Answer::Done(rows_left, _) => rows_left == 0,
         Answer::Refused(_) => false,
     }
 }
@@ -68,8 +70,9 @@ pub fn open_picture(plan: Plan, ticket: u32, marks: &mut [u8]) -> Opened
     Opened::Open(ticket)
 }
 
-// Composes `count` row pairs from `first` on and marks them. Refused by one of the rules 7 to 11, in this order, it
-// writes nothing.
+// Composes `count` row pairs from `first` on and marks them: all of them as full where the flag is 1 or an enhancement is used,
+// and otherwise as base only those that are not full already. Refused by one of the rules 7 to 11, in this order, it writes
+// nothing.
 pub fn compose_job(
     plan: Plan,
     open_ticket: u32,
@@ -92,17 +95,19 @@ pub fn compose_job(
     if !is_marked(plan, marks.len()) {
         return Answer::Refused(seven_or(plan, 9));
     }
+    let full = makes_full(plan.header, enhancement.len());
     // Composing tests 7, the pictures' lengths (9), 10 and 11 in this order, and where it refuses it writes nothing.
-    let composed = compose_row_pairs(plan, first, count, base, enhancement, output);
+    let composed = compose_row_pairs(plan, first, count, base, enhancement, marks, output);
     let refusal = compose::number(composed);
     if refusal != 0 {
         return Answer::Refused(refusal);
     }
     let last = first + count;
-    mark(first, last, marks);
+    mark(full, first, last, marks);
     // A job may come again, so the row pairs left are counted and never worked out from those left before.
     let left = waiting(marks);
-    Answer::Done(left)
+    let unfilled = base_only(marks);
+    Answer::Done(left, unfilled)
 }
 
 // Carries demand 2, so that the gate names it: what a job writes is the composing process of clause 5.4, sample by sample.

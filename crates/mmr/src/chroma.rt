@@ -2,6 +2,7 @@
 use crate::columns::Format;
 use crate::columns::Place;
 use crate::columns::compose_columns;
+use marks::is_full;
 use picture::Planes;
 use plan::limits::PIECES;
 use plan::limits::PIVOTS;
@@ -28,7 +29,7 @@ fn place_of(p: Planes, k: usize, run: &[u16]) -> Place
     }
 }
 
-// The row pairs from `first` up to, but not including, `last`.
+// The row pairs from `first` up to, but not including, `last`; one that is full by the marks is kept.
 pub(crate) fn compose_rows(
     f: Format,
     p: Planes,
@@ -43,33 +44,36 @@ pub(crate) fn compose_rows(
     rows2: &[[i64; ROW]; PIECES],
     raised2: &[u32; 1024],
     cut: Cut,
+    marks: &[u8],
     base: &[u16],
     enhancement: &[u16],
     output: &mut [u16],
 )
     requires { ⌜ BothGiven f (both (side (f .cb .n) (now pivots1) (now kinds1) (now rows1)) (now raised1) (side (f .cr .n) (now pivots2) (now kinds2) (now rows2)) (now raised2)) ⌝ }
     requires { ⌜ RowsGiven p first last (length (now base)) × (RowsGiven p first last (length (now enhancement)) × RowsGiven p first last (length (now output))) ⌝ }
-    ensures { λ _. ⌜ now (output .exit) ≡ painted (chroma-rows p first last) (plane-value f (both (side (f .cb .n) (now (pivots1 .entry)) (now (kinds1 .entry)) (now (rows1 .entry))) (now (raised1 .entry)) (side (f .cr .n) (now (pivots2 .entry)) (now (kinds2 .entry)) (now (rows2 .entry))) (now (raised2 .entry))) cut p (now (base .entry)) (now (enhancement .entry))) (now (output .entry)) ⌝ }
+    ensures { λ _. ⌜ now (output .exit) ≡ painted (chroma-rows p first last (now (marks .entry))) (plane-value f (both (side (f .cb .n) (now (pivots1 .entry)) (now (kinds1 .entry)) (now (rows1 .entry))) (now (raised1 .entry)) (side (f .cr .n) (now (pivots2 .entry)) (now (kinds2 .entry)) (now (rows2 .entry))) (now (raised2 .entry))) cut p (now (base .entry)) (now (enhancement .entry))) (now (output .entry)) ⌝ }
 {
     let mut k = first;
     while k < last {
-        let place = place_of(p, k, base);
-        compose_columns(
-            f,
-            place,
-            pivots1,
-            kinds1,
-            rows1,
-            raised1,
-            pivots2,
-            kinds2,
-            rows2,
-            raised2,
-            cut,
-            base,
-            enhancement,
-            output,
-        );
+        if !is_full(marks, k) {
+            let place = place_of(p, k, base);
+            compose_columns(
+                f,
+                place,
+                pivots1,
+                kinds1,
+                rows1,
+                raised1,
+                pivots2,
+                kinds2,
+                rows2,
+                raised2,
+                cut,
+                base,
+                enhancement,
+                output,
+            );
+        }
         k += 1;
     }
 }

@@ -111,13 +111,14 @@ fn with_cr(
     raised1: &[u32; 1024],
     raised2: &[u32; 1024],
     cut: Cut,
+    marks: &[u8],
     base: &[u16],
     enhancement: &[u16],
     output: &mut [u16],
 )
     requires { ⌜ ChromaGiven plan f first last (length (now base)) (length (now enhancement)) (length (now output)) ⌝ }
     requires { ⌜ ReadySide (plan .header .d) (plan .cb) (side (plan .cb .n) (now pivots1) (now kinds1) (now rows1)) ⌝ }
-    ensures { λ _. ⌜ now (output .exit) ≡ chroma-painted plan first last (now (raised1 .entry)) (now (raised2 .entry)) cut (now (base .entry)) (now (enhancement .entry)) (now (output .entry)) ⌝ }
+    ensures { λ _. ⌜ now (output .exit) ≡ chroma-painted plan first last (now (raised1 .entry)) (now (raised2 .entry)) cut (now (marks .entry)) (now (base .entry)) (now (enhancement .entry)) (now (output .entry)) ⌝ }
 {
     let h = plan.header;
     let cr = plan.cr;
@@ -140,6 +141,7 @@ fn with_cr(
         &rows2,
         raised2,
         cut,
+        marks,
         base,
         enhancement,
         output,
@@ -154,12 +156,13 @@ fn with_cb(
     raised1: &[u32; 1024],
     raised2: &[u32; 1024],
     cut: Cut,
+    marks: &[u8],
     base: &[u16],
     enhancement: &[u16],
     output: &mut [u16],
 )
     requires { ⌜ ChromaGiven plan f first last (length (now base)) (length (now enhancement)) (length (now output)) ⌝ }
-    ensures { λ _. ⌜ now (output .exit) ≡ chroma-painted plan first last (now (raised1 .entry)) (now (raised2 .entry)) cut (now (base .entry)) (now (enhancement .entry)) (now (output .entry)) ⌝ }
+    ensures { λ _. ⌜ now (output .exit) ≡ chroma-painted plan first last (now (raised1 .entry)) (now (raised2 .entry)) cut (now (marks .entry)) (now (base .entry)) (now (enhancement .entry)) (now (output .entry)) ⌝ }
 {
     let cb = plan.cb;
     let preds = cb.preds;
@@ -177,6 +180,7 @@ fn with_cb(
         raised1,
         raised2,
         cut,
+        marks,
         base,
         enhancement,
         output,
@@ -184,8 +188,8 @@ fn with_cb(
 }
 
 // Composes the row pairs of Cb and Cr from `first` up to, but not including, `last`: each sample is mapped, a raised residual of
-// its enhancement sample is added, and the HDR sample is cut out of the sum. Where the plan's numbers cannot be computed with, or
-// the runs are not whole pictures, nothing is written.
+// its enhancement sample is added, and the HDR sample is cut out of the sum. Row pairs that are full by the marks are
+// kept. Where the plan's numbers cannot be computed with, or the runs are not whole pictures, nothing is written.
 pub fn compose_chroma(
     plan: Plan,
     first: usize,
@@ -193,11 +197,12 @@ pub fn compose_chroma(
     raised1: &[u32; 1024],
     raised2: &[u32; 1024],
     cut: Cut,
+    marks: &[u8],
     base: &[u16],
     enhancement: &[u16],
     output: &mut [u16],
 )
-    ensures { λ _. ⌜ now (output .exit) ≡ chroma-after plan first last (now (raised1 .entry)) (now (raised2 .entry)) cut (now (base .entry)) (now (enhancement .entry)) (now (output .entry)) ⌝ }
+    ensures { λ _. ⌜ now (output .exit) ≡ chroma-after plan first last (now (raised1 .entry)) (now (raised2 .entry)) cut (now (marks .entry)) (now (base .entry)) (now (enhancement .entry)) (now (output .entry)) ⌝ }
 {
     let h = plan.header;
     if !numbers_fit(h, plan.y.n, plan.cb.n, plan.cr.n) {
@@ -215,6 +220,7 @@ pub fn compose_chroma(
         raised1,
         raised2,
         cut,
+        marks,
         base,
         enhancement,
         output,

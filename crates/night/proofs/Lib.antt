@@ -1,5 +1,10 @@
 pub mod Counting
+pub mod OneRowPair
+pub mod Accepted
+pub mod Sequence
 pub mod Night
-pub mod Calls
+pub mod InTime
+pub mod EitherOrder
+pub mod Chain
 pub mod TwoPictures
 pub mod FourRows

@@ -6,7 +6,8 @@ use Rattle.plan.specs.declared.Plan.{Plan}
 use Rattle.filling.specs.Filling.{filled}
 use Rattle.jobs.specs.Jobs.{Job}
 use Rattle.calls.specs.Calls.{Memory}
-use Rattle.night.specs.Night.{step, run, opened, Asked}
+use Rattle.night.specs.Sequence.{step, run, opened}
+use Rattle.night.specs.Night.{Asked}
 use Rattle.night.specs.TwoPictures.{Turn, first, second, of-first, of-second, run-both, Sharing, TwoPictures}
 use Rattle.night.proofs.Night.{any-night}
 

@@ -12,7 +12,8 @@ use Rattle.plan.specs.declared.Plan.{Plan}
 use Rattle.plan.specs.Rule7.{zero-piece, no-component}
 use Rattle.jobs.specs.Jobs.{Job, job, job-answer}
 use Rattle.calls.specs.Calls.{Memory}
-use Rattle.night.specs.Night.{run, opened, Leaves}
+use Rattle.night.specs.Sequence.{run, opened}
+use Rattle.night.specs.Night.{Leaves}
 
 -- W = 2 and H = 4, depth 10 to 12, every component linear, no residual
 abbrev four-rows-header : Header
@@ -46,9 +47,9 @@ abbrev all-sent : List Job
 all-sent = sent 0 1 ∷ sent 0 1 ∷ sent 1 1 ∷ []
 
 pub record FourRows : Type 0 where
-  pub first : Leaves (answered (sent 0 1) []) 1
-  pub again : Leaves (answered (sent 0 1) (sent 0 1 ∷ [])) 1
-  pub second : Leaves (answered (sent 1 1) (sent 0 1 ∷ sent 0 1 ∷ [])) 0
+  pub first : Leaves (answered (sent 0 1) []) 1 0
+  pub again : Leaves (answered (sent 0 1) (sent 0 1 ∷ [])) 1 0
+  pub second : Leaves (answered (sent 1 1) (sent 0 1 ∷ sent 0 1 ∷ [])) 0 0
   pub past : answered (sent 2 1) all-sent .number ≡ 10
   -- after the first job its rows are composed, and the others are old; at the end all are composed
   pub torn : after (sent 0 1 ∷ []) .output ≡ 4 ∷ 8 ∷ 12 ∷ 16 ∷ 77 ∷ 77 ∷ 77 ∷ 77 ∷ 36 ∷ 77 ∷ 44 ∷ 77 ∷ []

@@ -9,7 +9,8 @@ use Rattle.rules.specs.Rules.{by-table}
 use Rattle.filling.specs.Filling.{filled}
 use Rattle.jobs.specs.Jobs.{Job, opening-accepted}
 use Rattle.calls.specs.Calls.{Memory}
-use Rattle.night.specs.Night.{step, run, opened, Keeps, All, StaysFinished}
+use Rattle.night.specs.Sequence.{step, run, opened}
+use Rattle.night.specs.Night.{Keeps, All, StaysFinished}
 
 -- a job of one of two pictures, and the jobs of each in a sequence
 pub data Turn : Type 0 where

@@ -1,5 +1,8 @@
 // Theorems on the calls of a night. Each function computes nothing: its promise is the theorem.
-ghost use Rattle.night.specs.Night.{StandbyNight, PlainNight, AnyChainOfCalls};
+ghost use Rattle.night.specs.Night.{StandbyNight, PlainNight};
+ghost use Rattle.night.specs.InTime.{NightInTime};
+ghost use Rattle.night.specs.EitherOrder.{EitherOrder};
+ghost use Rattle.night.specs.Chain.{AnyChainOfCalls};
 ghost use Rattle.night.specs.TwoPictures.{TwoPictures};
 ghost use Rattle.night.specs.FourRows.{FourRows};
 
@@ -8,9 +11,19 @@ pub fn the_standby_night()
     ensures { λ _. ⌜ StandbyNight ⌝ }
 {}
 
-// What it said when there were plain jobs alone.
+// Of plain jobs alone, without a word on tables.
 pub fn plain_jobs_alone()
     ensures { λ _. ⌜ PlainNight ⌝ }
+{}
+
+// What it said before the enhancement could come late: with every accepted job, or with none.
+pub fn enhancement_in_time()
+    ensures { λ _. ⌜ NightInTime ⌝ }
+{}
+
+// A job without the enhancement and one with it may come in either order.
+pub fn either_order()
+    ensures { λ _. ⌜ EitherOrder ⌝ }
 {}
 
 // Of two pictures that share a table, each by itself.

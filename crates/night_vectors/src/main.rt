@@ -17,7 +17,7 @@ use streams::next_number;
 use streams::nights::next_choice;
 use streams::nights::next_runs;
 use streams::nights::next_ticket;
-use streams::nights::print_left;
+use streams::nights::print_done;
 use streams::nights::print_marks;
 use streams::nights::print_open;
 use streams::nights::run_of;
@@ -27,7 +27,7 @@ use streams::untouch;
 
 fn say_answer(answer: Answer) {
     match answer {
-        Answer::Done(left) => print_left(left),
+        Answer::Done(left, base_only) => print_done(left, base_only),
         Answer::Refused(number) => print_refusal(number),
     }
 }

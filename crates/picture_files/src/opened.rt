@@ -11,6 +11,8 @@ use crate::group::say_ended;
 use crate::group::say_pictures;
 use crate::group::say_task;
 use crate::group::say_unwritten;
+use crate::schedule::Way;
+use crate::schedule::is_late;
 use files::create_beside;
 use files::file_length;
 use files::move_into_place;
@@ -22,7 +24,9 @@ use plan::Header;
 use saying::say;
 use saying::say_argument;
 use saying::say_number;
+use std::num::wrapping_add_usize;
 
+// `pictures` are those of the base, each of `size` bytes.
 pub struct Files {
     pub base: i32,
     pub enhancement: i32,
@@ -93,7 +97,7 @@ fn is_kept(output: usize, fd: i32) -> bool {
 }
 
 // Closes the files, and moves what was written into place, or removes it where it is not whole.
-pub fn close_files(names: Names, f: Files, whole: bool) -> bool {
+pub fn close_files(names: Names, way: Way, f: Files, whole: bool) -> bool {
     let kept = if whole {
         is_kept(names.output, f.output)
     } else {
@@ -106,7 +110,7 @@ pub fn close_files(names: Names, f: Files, whole: bool) -> bool {
         remove_beside(names.output);
         return false;
     }
-    finish(names.output, f.pictures)
+    finish(names.output, pictures_out(way, f.pictures))
 }
 
 // Loads the enhancement's band where one is used.
@@ -136,13 +140,49 @@ pub fn load_runs(
     true
 }
 
+// Twice a place or a number of pictures. No file reaches 2^63 bytes, so what is doubled here never wraps.
+fn twice(n: usize) -> usize {
+    wrapping_add_usize(n, n)
+}
+
+// How many pictures the output has: of a late group each of them twice, without the enhancement and then with it.
+fn pictures_out(way: Way, pictures: usize) -> usize {
+    if is_late(way) {
+        twice(pictures)
+    } else {
+        pictures
+    }
+}
+
+// The band of a picture that begins elsewhere.
+fn moved(band: Band, start: usize) -> Band {
+    let mut there = band;
+    there.start = start;
+    there
+}
+
 // Stores the band; false, having said why, where it cannot be written.
-pub fn store_run(names: Names, band: Band, f: Files, output: &[u16]) -> bool {
+fn store_there(names: Names, band: Band, f: Files, output: &[u16]) -> bool {
     if !store_band(f.output, band, output) {
         say_unwritten(names.output, os::errno());
         return false;
     }
     true
+}
+
+// Stores a late group's band as it is before the enhancement comes: in the first of the picture's two.
+pub fn store_early(names: Names, band: Band, f: Files, output: &[u16]) -> bool {
+    let first = moved(band, twice(band.start));
+    store_there(names, first, f, output)
+}
+
+// Stores the band as it is in the end: of a late group in the second of the picture's two.
+pub fn store_run(names: Names, way: Way, band: Band, f: Files, output: &[u16]) -> bool {
+    if !is_late(way) {
+        return store_there(names, band, f, output);
+    }
+    let second = moved(band, wrapping_add_usize(twice(band.start), f.size));
+    store_there(names, second, f, output)
 }
 
 // The file beside is whole: moves it into place, and says its check sum as it stands.

@@ -1,7 +1,38 @@
-// The jobs of a band, in their order: one for all its row pairs, or, with a standby in the middle, eight row pairs a
-// job, those that were in flight at the standby again, and then the rest.
+// The jobs of a band, in their order. One for all its row pairs; or, with a standby in the middle, eight row pairs a
+// job, those that were in flight at the standby again, and then the rest. Where the enhancement comes late, jobs
+// without it compose the whole band before these.
 use std::num::wrapping_add_u16;
 ghost use Prim.Native.Nat.{_≤_};
+
+// How the bands of a group are sent.
+pub enum Way {
+    Whole, // by one job
+    Standby,
+    Late,
+}
+
+// The way that the words before a group ask for. A late group has its standby by itself.
+pub fn way_of(standby: bool, late: bool) -> Way {
+    if late {
+        return Way::Late;
+    }
+    if standby { Way::Standby } else { Way::Whole }
+}
+
+pub fn is_late(way: Way) -> bool {
+    match way {
+        Way::Late => true,
+        _ => false,
+    }
+}
+
+// Whether the jobs have eight row pairs; then each of them is said.
+pub fn is_said(way: Way) -> bool {
+    match way {
+        Way::Whole => false,
+        _ => true,
+    }
+}
 
 // Row pairs that a job names, counted from the band's first.
 pub struct Named {
@@ -48,35 +79,67 @@ fn in_flight(half: u16) -> u16
     if half < 16 { half } else { 16 }
 }
 
-// The number of the first job after the standby.
-pub fn standby_at(n: u16) -> u16
+// The number of the first job for which the enhancement is there.
+pub fn come_at(way: Way, n: u16) -> u16
     ensures { λ r. ⌜ r ≤ 8192 ⌝ }
 {
-    batches(n / 2)
+    if is_late(way) { batches(n) } else { 0 }
 }
 
-pub fn jobs_of(standby: bool, n: u16) -> u16 {
-    if !standby {
+// The number of the first job after the standby.
+pub fn standby_at(way: Way, n: u16) -> u16
+    ensures { λ r. ⌜ r ≤ 16384 ⌝ }
+{
+    come_at(way, n) + batches(n / 2)
+}
+
+// The number of the first job after those that are sent again.
+fn rest_at(way: Way, n: u16) -> u16
+    ensures { λ r. ⌜ r ≤ 24576 ⌝ }
+{
+    standby_at(way, n) + batches(in_flight(n / 2))
+}
+
+pub fn jobs_of(way: Way, n: u16) -> u16 {
+    if !is_said(way) {
         return 1;
     }
-    let half = n / 2;
-    standby_at(n) + batches(in_flight(half)) + batches(n - half)
+    rest_at(way, n) + batches(n - n / 2)
 }
 
 // Job k of a band of n row pairs.
-pub fn job_at(standby: bool, n: u16, k: u16) -> Named {
-    if !standby {
+pub fn job_at(way: Way, n: u16, k: u16) -> Named {
+    if !is_said(way) {
         return Named { first: 0, count: n };
     }
+    let come = come_at(way, n);
+    if k < come {
+        return batch(0, n, k);
+    }
     let half = n / 2;
-    let before = standby_at(n);
-    if k < before {
-        return batch(0, half, k);
+    let standby = standby_at(way, n);
+    if k < standby {
+        return batch(0, half, k - come);
     }
-    let again = in_flight(half);
-    let resent = batches(again);
-    if k - before < resent {
-        return batch(half - again, again, k - before);
+    let rest = rest_at(way, n);
+    if k < rest {
+        let again = in_flight(half);
+        return batch(half - again, again, k - standby);
     }
-    batch(half, n - half, k - before - resent)
+    batch(half, n - half, k - rest)
+}
+
+// Whether job k goes without the enhancement. In a late group those that are sent again do so too: after the standby
+// the base is there first.
+pub fn is_bare(way: Way, n: u16, k: u16) -> bool {
+    if !is_late(way) {
+        return false;
+    }
+    if k < come_at(way, n) {
+        return true;
+    }
+    if k < standby_at(way, n) {
+        return false;
+    }
+    k < rest_at(way, n)
 }

@@ -25,15 +25,15 @@ in-order p plane q output a b c e x y z =
     (x ∙ ap (λ (s : Planes). plane (p .y) (s .y) output) e))
 
 -- a plane by tables that calls gave
-pub looked-by : (h : Header) (c : Component) (r : Rows) (p : Plane) (base output after : List ℕ) (mapped : Mapped) → after ≡ looked-up-rows (finished-table h (mapped .table)) p r base output → mapped ≡ answer h c → after ≡ plain-plane h r base c p output
-looked-by h c r p base output after mapped e f = e ∙ ap (λ (m : Mapped). looked-up-rows (finished-table h (m .table)) p r base output) f
+pub looked-by : (h : Header) (c : Component) (r : Rows) (p : Plane) (marks base output after : List ℕ) (mapped : Mapped) → after ≡ looked-up-rows (finished-table h (mapped .table)) p r marks base output → mapped ≡ answer h c → after ≡ plain-plane h r marks base c p output
+looked-by h c r p marks base output after mapped e f = e ∙ ap (λ (m : Mapped). looked-up-rows (finished-table h (m .table)) p r marks base output) f
 
 pub added-by : (h : Header) (c : Component) (r : Rows) (p : Plane) (base enhancement output after : List ℕ) (mapped : Mapped) (cut : Cut) → after ≡ added-up-rows (mapped .table) (residual-table h (c .nlq)) cut p r base enhancement output → mapped ≡ answer h c → cut ≡ cut-numbers h → after ≡ enhanced-plane h r base enhancement c p output
 added-by h c r p base enhancement output after mapped cut e f g = e ∙ ap₂ (λ (m : Mapped) (k : Cut). added-up-rows (m .table) (residual-table h (c .nlq)) k p r base enhancement output) f g
 
 -- chroma as a call gave it, and luma by its table
-pub plain-over : (p : Plan) (r : Rows) (q : Planes) (base output chroma after : List ℕ) → q ≡ planes (extent (p .header)) → chroma ≡ plain-chroma p r base output → after ≡ plain-plane (p .header) r base (p .y) (q .y) chroma → after ≡ plain-mixed p r base output
-plain-over p r q base output chroma after e c a = a ∙ ap₂ (λ (s : Planes) (o : List ℕ). plain-plane (p .header) r base (p .y) (s .y) o) e c
+pub plain-over : (p : Plan) (r : Rows) (q : Planes) (marks base output chroma after : List ℕ) → q ≡ planes (extent (p .header)) → chroma ≡ plain-chroma p r marks base output → after ≡ plain-plane (p .header) r marks base (p .y) (q .y) chroma → after ≡ plain-mixed p r marks base output
+plain-over p r q marks base output chroma after e c a = a ∙ ap₂ (λ (s : Planes) (o : List ℕ). plain-plane (p .header) r marks base (p .y) (s .y) o) e c
 
 pub enhanced-over : (p : Plan) (r : Rows) (q : Planes) (base enhancement output chroma after : List ℕ) (cut : Cut) → q ≡ planes (extent (p .header)) → cut ≡ cut-numbers (p .header) → chroma ≡ enhanced-chroma p cut r base enhancement output → after ≡ enhanced-plane (p .header) r base enhancement (p .y) (q .y) chroma → after ≡ enhanced-mixed p r base enhancement output
 enhanced-over p r q base enhancement output chroma after cut e k c a =

@@ -23,11 +23,20 @@ ghost use Rattle.rows.specs.inner.Rows.{looked-up-rows, added-up-rows};
 ghost use Rattle.planes.specs.inner.ByTables.{plain-chroma, enhanced-chroma, plain-picture, enhanced-picture};
 
 // One plane without residual, by its mapped samples: those of a table that is made, or of a part of one that is lent.
-pub fn plain_plane(h: Header, mapped: &[u16], p: Plane, r: Rows, base: &[u16], output: &mut [u16])
-    ensures { λ _. ⌜ now (output .exit) ≡ looked-up-rows (finished-table h (now (mapped .entry))) p r (now (base .entry)) (now (output .entry)) ⌝ }
+// Row pairs that are full by the marks are kept.
+pub fn plain_plane(
+    h: Header,
+    mapped: &[u16],
+    p: Plane,
+    r: Rows,
+    marks: &[u8],
+    base: &[u16],
+    output: &mut [u16],
+)
+    ensures { λ _. ⌜ now (output .exit) ≡ looked-up-rows (finished-table h (now (mapped .entry))) p r (now (marks .entry)) (now (base .entry)) (now (output .entry)) ⌝ }
 {
     let finished = finished_table(h, mapped);
-    look_up_rows(&finished, p, r, base, output);
+    look_up_rows(&finished, p, r, marks, base, output);
 }
 
 // One plane with residual.
@@ -49,14 +58,26 @@ pub fn enhanced_plane(
 }
 
 // Chroma by MMR. The enhancement is not there: the base stands for it, since every code has no residual.
-fn plain_chroma(plan: Plan, r: Rows, base: &[u16], output: &mut [u16])
-    ensures { λ _. ⌜ now (output .exit) ≡ plain-chroma plan r (now (base .entry)) (now (output .entry)) ⌝ }
+fn plain_chroma(plan: Plan, r: Rows, marks: &[u8], base: &[u16], output: &mut [u16])
+    ensures { λ _. ⌜ now (output .exit) ≡ plain-chroma plan r (now (marks .entry)) (now (base .entry)) (now (output .entry)) ⌝ }
 {
     let none = no_residual(plan.header);
     let cut = cut_numbers(plan.header);
-    compose_chroma(plan, r.first, r.last, &none, &none, cut, base, base, output);
+    compose_chroma(
+        plan,
+        r.first,
+        r.last,
+        &none,
+        &none,
+        cut,
+        marks,
+        base,
+        base,
+        output,
+    );
 }
 
+// With residual all row pairs are written: no marks are handed on.
 fn enhanced_chroma(
     plan: Plan,
     cut: Cut,
@@ -77,6 +98,7 @@ fn enhanced_chroma(
         &blue,
         &red,
         cut,
+        &[],
         base,
         enhancement,
         output,
@@ -85,8 +107,8 @@ fn enhanced_chroma(
 
 // Without residual. Whatever is handed the plan or a component comes before anything is written: they are large, and what
 // is read of them after a store to the output is copied before it, as the compiler does not know that they differ.
-pub fn plain_planes(plan: Plan, r: Rows, base: &[u16], output: &mut [u16])
-    ensures { λ _. ⌜ now (output .exit) ≡ plain-picture plan r (now (base .entry)) (now (output .entry)) ⌝ }
+pub fn plain_planes(plan: Plan, r: Rows, marks: &[u8], base: &[u16], output: &mut [u16])
+    ensures { λ _. ⌜ now (output .exit) ≡ plain-picture plan r (now (marks .entry)) (now (base .entry)) (now (output .entry)) ⌝ }
 {
     let h = plan.header;
     let p = planes_of(extent_of(h));
@@ -97,13 +119,13 @@ pub fn plain_planes(plan: Plan, r: Rows, base: &[u16], output: &mut [u16])
     let cr = plan.cr;
     let red = mapped_table(h, cr);
     if blue.maps & red.maps {
-        plain_plane(h, &luma.table, p.y, r, base, output);
-        plain_plane(h, &blue.table, p.cb, r, base, output);
-        plain_plane(h, &red.table, p.cr, r, base, output);
+        plain_plane(h, &luma.table, p.y, r, marks, base, output);
+        plain_plane(h, &blue.table, p.cb, r, marks, base, output);
+        plain_plane(h, &red.table, p.cr, r, marks, base, output);
         return;
     }
-    plain_chroma(plan, r, base, output);
-    plain_plane(h, &luma.table, p.y, r, base, output);
+    plain_chroma(plan, r, marks, base, output);
+    plain_plane(h, &luma.table, p.y, r, marks, base, output);
 }
 
 // With residual. The numbers of the cut serve three planes.

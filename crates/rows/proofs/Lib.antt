@@ -1,2 +1,3 @@
 pub mod Lending
 pub mod Parts
+pub mod Standing

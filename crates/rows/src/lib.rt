@@ -1,5 +1,6 @@
 // Row pairs of one plane, by tables that are made once a call.
 mod adding; // a stretch of samples with residual, part by part
+mod apart; // row pairs that stand apart, in step
 mod each; // row pair by row pair
 
 use each::add_up_each;
@@ -16,14 +17,22 @@ pub struct Rows {
     pub last: usize,
 }
 
-// Looks the samples of the row pairs up. Where they do not all lie within both runs, nothing is written.
-pub fn look_up_rows(table: &[u16; 1024], p: Plane, r: Rows, base: &[u16], output: &mut [u16])
-    ensures { λ _. ⌜ now (output .exit) ≡ looked-up-rows (now (table .entry)) p r (now (base .entry)) (now (output .entry)) ⌝ }
+// Looks the samples of the row pairs up, and keeps those that are full by the marks. Where they do not all lie within
+// both runs, nothing is written.
+pub fn look_up_rows(
+    table: &[u16; 1024],
+    p: Plane,
+    r: Rows,
+    marks: &[u8],
+    base: &[u16],
+    output: &mut [u16],
+)
+    ensures { λ _. ⌜ now (output .exit) ≡ looked-up-rows (now (table .entry)) p r (now (marks .entry)) (now (base .entry)) (now (output .entry)) ⌝ }
 {
     let in_base = lies(p, r.first, r.last, base.len());
     let in_output = lies(p, r.first, r.last, output.len());
     if in_base & in_output {
-        look_up_each(table, p, r, base, output);
+        look_up_each(table, p, r, marks, base, output);
     }
 }
 

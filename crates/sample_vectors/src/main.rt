@@ -38,7 +38,15 @@ fn answer_of(
     if enhancement.len() < ne {
         return;
     }
-    let answer = compose_row_pairs(plan, first, count, &base[..nb], &enhancement[..ne], output);
+    let answer = compose_row_pairs(
+        plan,
+        first,
+        count,
+        &base[..nb],
+        &enhancement[..ne],
+        &[],
+        output,
+    );
     print_answer(answer, output);
 }
 

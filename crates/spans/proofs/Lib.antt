@@ -1,2 +1,3 @@
 pub mod Fours
+pub mod InStep
 pub mod Six

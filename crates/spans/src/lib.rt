@@ -1,5 +1,7 @@
 // Loops over whole slices: samples looked up in a table, and the bits of six runs joined. A table has a place for every
 // index that a loop can ask for, so that nothing is asked of the samples.
+pub mod apart; // stretches that stand apart, in step
+
 ghost use mathlib.Core.Path.{_≡_};
 ghost use Prim.Native.Nat.{_+_, _<_, _≤_, min};
 ghost use lib.ListN.{length};

@@ -71,14 +71,16 @@ pub fn print_open(ticket: u32) {
     io::write_all(1, b"\n");
 }
 
-// `left N`, or `complete` where none is left.
-pub fn print_left(left: usize) {
+// `left N, base only M`, or `complete, base only M` where none is left.
+pub fn print_done(left: usize, base_only: usize) {
     if left == 0 {
-        io::write_all(1, b"complete\n");
-        return;
+        io::write_all(1, b"complete");
+    } else {
+        io::write_all(1, b"left ");
+        io::print_decimal(1, left as u64);
     }
-    io::write_all(1, b"left ");
-    io::print_decimal(1, left as u64);
+    io::write_all(1, b", base only ");
+    io::print_decimal(1, base_only as u64);
     io::write_all(1, b"\n");
 }
 

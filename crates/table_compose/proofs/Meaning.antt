@@ -15,11 +15,13 @@ use Rattle.runs.proofs.Between.{between-true}
 use Rattle.runs.proofs.Painting.{painted-cong, length-painted}
 use Rattle.runs.proofs.Parts.{part, length-part, at-part}
 use Rattle.runs.proofs.Tables.{length-table, at-table}
+use Rattle.marks.specs.inner.Marks.{not-full}
+use Rattle.marks.proofs.Keeping.{not-full-named}
 use Rattle.standard.specs.Residual.{residual, reconstructed}
 use Rattle.picture.specs.declared.Extent.{Extent}
 use Rattle.picture.specs.declared.Plane.{Plane}
 use Rattle.picture.specs.declared.Planes.{Planes}
-use Rattle.picture.specs.Picture.{of-plane, in-pairs}
+use Rattle.picture.specs.Picture.{of-plane, pair-at, in-pairs}
 use Rattle.picture.specs.inner.Planes.{planes, luma-plane, cb-plane, cr-plane, in-rows}
 use Rattle.picture.proofs.Three.{in-luma-plane, in-cb-plane, in-cr-plane, painted-planes, of-plane-ap}
 use Rattle.plan.specs.declared.Header.{Header}
@@ -40,7 +42,7 @@ use Rattle.compose.proofs.Samples.{CodesIn, CodesInPicture, plain-at, enhanced-
 use Rattle.compose.proofs.Meaning.{of-plane-both}
 use Rattle.compose.proofs.Planes.{Has, in-luma, in-cb, in-cr}
 use Rattle.compose.proofs.Planes as one-plane
-use Rattle.table_compose.specs.inner.ByTable.{Lent, Enhanced, plain-sample, enhanced-sample}
+use Rattle.table_compose.specs.inner.ByTable.{Lent, Enhanced, in-not-full, plain-sample, enhanced-sample}
 
 -- ---- a part that is copied: its samples have 16 bits, and past its end there is 0
 pub low-set : (l : List ℕ) (i v : ℕ) → ((j : ℕ) → at l j ≤ 65535) → v ≤ 65535 → (j : ℕ) → at (set l i v) j ≤ 65535
@@ -96,47 +98,52 @@ module _ (h : Header) (r : Rows) (t base output : List ℕ) (g : Lent h r t base
       small : (i : ℕ) → rows-of q i ≡ true → at base i % 1024 ≡ at base i
       small i s = mod-eq-of-lt (lt-of-lt-of-le (b .code i s) few)
 
-  over : (y cb cr : ℕ → ℕ) → painted (rows-of (cr-plane e)) cr (painted (rows-of (cb-plane e)) cb (painted (rows-of (luma-plane e)) y output)) ≡ painted (in-pairs e (r .first) (r .last)) (λ i. of-plane e i (y i) (cb i) (cr i)) output
-  over y cb cr = painted-planes e (g .in-output .some-columns) (between (r .first) (r .last)) (λ k s. omega (arith, between-true (r .first) (r .last) k s, g .in-output .within)) y cb cr output
+  -- three paintings at some of the row pairs that are named
+  over : (selected : ℕ → Bool) → ((k : ℕ) → selected k ≡ true → between (r .first) (r .last) k ≡ true) → (y cb cr : ℕ → ℕ) → painted (in-rows (cr-plane e) selected) cr (painted (in-rows (cb-plane e) selected) cb (painted (in-rows (luma-plane e) selected) y output)) ≡ painted (λ i. selected (pair-at e i)) (λ i. of-plane e i (y i) (cb i) (cr i)) output
+  over selected named y cb cr = painted-planes e (g .in-output .some-columns) selected (λ k s. omega (arith, between-true (r .first) (r .last) k (named k s), g .in-output .within)) y cb cr output
 
-  -- ---- without residual: three planes, one after the other
-  abbrev looked : ℕ → Plane → List ℕ → List ℕ
-  looked from q o = looked-up-rows (finished-table h (part from (from + codes) t)) q r base o
-
-  one-looked : (q : Plane) (from : ℕ) → from + codes ≤ length t → CodesIn q r codes base → (o : List ℕ) → RowsIn q r o → looked from q o ≡ painted (rows-of q) (plain-at h (from-on from)) o
-  one-looked q from within b o k = one-plane.plain-painted h q r (part from (from + codes) t) base o (from-on from) (g .fits) (has-part q from within b) (b .rows) k
-
+  -- ---- without residual: three planes, one after the other, at the row pairs that are not full
   all-plain : (i : ℕ) → of-plane e i (plain-at h (from-on 0) i) (plain-at h (from-on codes) i) (plain-at h (from-on (2 * codes)) i) ≡ plain-sample h t base i
   unfolding plain-at plain-sample looked-up-at
   all-plain i = sym (of-plane-ap (λ (from : ℕ). reconstructed (hdr-depth h) (at t (from + at base i)) (pos 0)) e i 0 codes (2 * codes))
 
-  -- where calls wrote the planes, with a third of the table's length that was worked out
-  pub plain-written : (p : Planes) (n : ℕ) (o1 o2 o3 : List ℕ) → p ≡ planes e → n ≡ codes
-      → o1 ≡ looked-up-rows (finished-table h (part 0 n t)) (p .y) r base output
-      → o2 ≡ looked-up-rows (finished-table h (part n (2 * n) t)) (p .cb) r base o1
-      → o3 ≡ looked-up-rows (finished-table h (part (2 * n) (3 * n) t)) (p .cr) r base o2
-      → o3 ≡ painted (in-pairs e (r .first) (r .last)) (plain-sample h t base) output
-  plain-written p n o1 o2 o3 is third e1 e2 e3 =
-      let y = in-luma e r codes base in-base in
-      let cb = in-cb e r codes base in-base in
-      let cr = in-cr e r codes base in-base in
-      let w : (from to : ℕ) (q : Plane) (o : List ℕ) → from + codes ≡ to → looked-up-rows (finished-table h (part from to t)) q r base o ≡ looked from q o = λ from to q o s. ap (λ (m : ℕ). looked-up-rows (finished-table h (part from m t)) q r base o) (sym s) in
-      let one : o1 ≡ painted (rows-of (luma-plane e)) (plain-at h (from-on 0)) output =
-      e1 ∙ ap₂ (λ (m : ℕ) (s : Planes). looked-up-rows (finished-table h (part 0 m t)) (s .y) r base output) third is
-      ∙ w 0 codes (luma-plane e) output (omega arith)
-      ∙ one-looked (luma-plane e) 0 (omega (arith, g .size)) y output (in-luma-plane e _ _ _ (g .in-output)) in
-      let m1 : length o1 ≡ length output = ap length one ∙ length-painted _ _ output in
-      let two : o2 ≡ painted (rows-of (cb-plane e)) (plain-at h (from-on codes)) o1 =
-      e2 ∙ ap₂ (λ (m : ℕ) (s : Planes). looked-up-rows (finished-table h (part m (2 * m) t)) (s .cb) r base o1) third is
-      ∙ w codes (2 * codes) (cb-plane e) o1 (omega arith)
-      ∙ one-looked (cb-plane e) codes (omega (arith, g .size)) cb o1 (rw m1 (in-cb-plane e _ _ _ (g .in-output))) in
-      let m2 : length o2 ≡ length output = ap length two ∙ length-painted _ _ o1 ∙ m1 in
-      let three : o3 ≡ painted (rows-of (cr-plane e)) (plain-at h (from-on (2 * codes))) o2 =
-      e3 ∙ ap₂ (λ (m : ℕ) (s : Planes). looked-up-rows (finished-table h (part (2 * m) (3 * m) t)) (s .cr) r base o2) third is
-      ∙ w (2 * codes) (3 * codes) (cr-plane e) o2 (omega arith)
-      ∙ one-looked (cr-plane e) (2 * codes) (omega (arith, g .size)) cr o2 (rw m2 (in-cr-plane e _ _ _ (g .in-output))) in
-      three ∙ ap (painted _ _) (two ∙ ap (painted _ _) one) ∙ over _ _ _
-      ∙ painted-cong _ _ _ _ output (λ i b. refl) (λ i b s. all-plain i)
+  module _ (marks : List ℕ) where
+    abbrev some : ℕ → Bool
+    some = not-full (r .first) (r .last) marks
+
+    abbrev looked : ℕ → Plane → List ℕ → List ℕ
+    looked from q o = looked-up-rows (finished-table h (part from (from + codes) t)) q r marks base o
+
+    one-looked : (q : Plane) (from : ℕ) → from + codes ≤ length t → CodesIn q r codes base → (o : List ℕ) → RowsIn q r o → looked from q o ≡ painted (in-rows q some) (plain-at h (from-on from)) o
+    one-looked q from within b o k = one-plane.plain-painted h q r (part from (from + codes) t) base o (from-on from) (g .fits) (has-part q from within b) (b .rows) k marks
+
+    -- where calls wrote the planes, with a third of the table's length that was worked out
+    pub plain-written : (p : Planes) (n : ℕ) (o1 o2 o3 : List ℕ) → p ≡ planes e → n ≡ codes
+        → o1 ≡ looked-up-rows (finished-table h (part 0 n t)) (p .y) r marks base output
+        → o2 ≡ looked-up-rows (finished-table h (part n (2 * n) t)) (p .cb) r marks base o1
+        → o3 ≡ looked-up-rows (finished-table h (part (2 * n) (3 * n) t)) (p .cr) r marks base o2
+        → o3 ≡ painted (in-not-full h r marks) (plain-sample h t base) output
+    plain-written p n o1 o2 o3 is third e1 e2 e3 =
+        let y = in-luma e r codes base in-base in
+        let cb = in-cb e r codes base in-base in
+        let cr = in-cr e r codes base in-base in
+        let w : (from to : ℕ) (q : Plane) (o : List ℕ) → from + codes ≡ to → looked-up-rows (finished-table h (part from to t)) q r marks base o ≡ looked from q o = λ from to q o s. ap (λ (m : ℕ). looked-up-rows (finished-table h (part from m t)) q r marks base o) (sym s) in
+        let one : o1 ≡ painted (in-rows (luma-plane e) some) (plain-at h (from-on 0)) output =
+        e1 ∙ ap₂ (λ (m : ℕ) (s : Planes). looked-up-rows (finished-table h (part 0 m t)) (s .y) r marks base output) third is
+        ∙ w 0 codes (luma-plane e) output (omega arith)
+        ∙ one-looked (luma-plane e) 0 (omega (arith, g .size)) y output (in-luma-plane e _ _ _ (g .in-output)) in
+        let m1 : length o1 ≡ length output = ap length one ∙ length-painted _ _ output in
+        let two : o2 ≡ painted (in-rows (cb-plane e) some) (plain-at h (from-on codes)) o1 =
+        e2 ∙ ap₂ (λ (m : ℕ) (s : Planes). looked-up-rows (finished-table h (part m (2 * m) t)) (s .cb) r marks base o1) third is
+        ∙ w codes (2 * codes) (cb-plane e) o1 (omega arith)
+        ∙ one-looked (cb-plane e) codes (omega (arith, g .size)) cb o1 (rw m1 (in-cb-plane e _ _ _ (g .in-output))) in
+        let m2 : length o2 ≡ length output = ap length two ∙ length-painted _ _ o1 ∙ m1 in
+        let three : o3 ≡ painted (in-rows (cr-plane e) some) (plain-at h (from-on (2 * codes))) o2 =
+        e3 ∙ ap₂ (λ (m : ℕ) (s : Planes). looked-up-rows (finished-table h (part (2 * m) (3 * m) t)) (s .cr) r marks base o2) third is
+        ∙ w (2 * codes) (3 * codes) (cr-plane e) o2 (omega arith)
+        ∙ one-looked (cr-plane e) (2 * codes) (omega (arith, g .size)) cr o2 (rw m2 (in-cr-plane e _ _ _ (g .in-output))) in
+        three ∙ ap (painted _ _) (two ∙ ap (painted _ _) one) ∙ over some (not-full-named _ _ marks) _ _ _
+        ∙ painted-cong _ _ _ _ output (λ i b. refl) (λ i b s. all-plain i)
 
   -- ---- with residual: each part is copied to a table first
   module _ (enhancement : List ℕ) where
@@ -189,7 +196,7 @@ module _ (h : Header) (r : Rows) (t base output : List ℕ) (g : Lent h r t base
         let three : o3 ≡ painted (rows-of (cr-plane e)) (enhanced-at h enhancement cr (from-on (2 * codes))) o2 =
         e3 ∙ ap₂ (λ (x : Cut) (s : Planes). added-up-rows t3 (residual-table h cr) x (s .cr) r base enhancement o2) cut is
         ∙ one-added (cr-plane e) (2 * codes) (3 * codes) cr t3 (omega arith) (omega (arith, g .size)) (rw third at c3) (a .cr-fits) (in-cr e r codes base in-base) (in-cr e r _ enhancement in-enhancement) o2 (rw m2 (in-cr-plane e _ _ _ (g .in-output))) in
-        three ∙ ap (painted _ _) (two ∙ ap (painted _ _) one) ∙ over _ _ _
+        three ∙ ap (painted _ _) (two ∙ ap (painted _ _) one) ∙ over (between (r .first) (r .last)) (λ k s. s) _ _ _
         ∙ painted-cong _ _ _ _ output (λ i b. refl) (λ i b s. all-enhanced y cb cr i)
 
 -- ---- what the planes hold is what composing by a table means

@@ -2,6 +2,7 @@
 mod parts; // the planes, each by its part of the table
 
 use compose::Composed;
+use compose::marks_seen;
 use parts::enhanced_planes;
 use parts::plain_planes;
 use plan::Plan;
@@ -13,8 +14,9 @@ ghost use lib.ListN.{length};
 ghost use Rattle.rules.specs.Rules.{given-table};
 ghost use Rattle.compose.specs.Composing.{says, answer, output-after};
 
-// Composes `count` row pairs from `first` on, or refuses by rule 7, 9, 13, 10 or 11, in this order, and writes nothing. What
-// is read of the plan is read before anything is written: it is large, and would be copied else.
+// Composes `count` row pairs from `first` on, or refuses by rule 7, 9, 13, 10 or 11, in this order, and writes nothing.
+// Row pairs that the marks say are full are kept where the call makes base only ones; without marks nothing is kept.
+// What is read of the plan is read before anything is written: it is large, and would be copied else.
 pub fn compose_by_table(
     plan: Plan,
     table: &[u16],
@@ -22,10 +24,11 @@ pub fn compose_by_table(
     count: usize,
     base: &[u16],
     enhancement: &[u16],
+    marks: &[u8],
     output: &mut [u16],
 ) -> Composed
     ensures answers { λ r. ⌜ says r ≡ answer (given-table plan (now (table .entry)) first count (now (base .entry)) (now (enhancement .entry))) (length (now (output .entry))) ⌝ }
-    ensures writes { λ _. ⌜ now (output .exit) ≡ output-after (given-table plan (now (table .entry)) first count (now (base .entry)) (now (enhancement .entry))) (now (output .entry)) ⌝ }
+    ensures writes { λ _. ⌜ now (output .exit) ≡ output-after (given-table plan (now (table .entry)) first count (now (base .entry)) (now (enhancement .entry))) (now (marks .entry)) (now (output .entry)) ⌝ }
 {
     let number = refusal_of(plan, table, first, count, base, enhancement, output.len());
     if number != 0 {
@@ -49,6 +52,7 @@ pub fn compose_by_table(
         );
         return Composed::Written;
     }
-    plain_planes(plan.header, table, r, base, output);
+    let seen = marks_seen(plan.header, marks.len());
+    plain_planes(plan.header, table, r, &marks[0..seen], base, output);
     Composed::Written
 }

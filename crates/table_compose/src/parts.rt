@@ -15,18 +15,33 @@ ghost use Rattle.runs.specs.inner.Loops.{at};
 ghost use Rattle.runs.specs.inner.Tables.{table};
 ghost use Rattle.picture.specs.Picture.{in-pairs};
 ghost use Rattle.rules.specs.Rules.{extent};
-ghost use Rattle.table_compose.specs.inner.ByTable.{Lent, Enhanced, plain-sample, enhanced-sample};
+ghost use Rattle.table_compose.specs.inner.ByTable.{Lent, Enhanced, in-not-full, plain-sample, enhanced-sample};
 
-// Without residual.
-pub(crate) fn plain_planes(h: Header, table: &[u16], r: Rows, base: &[u16], output: &mut [u16])
+// Without residual. Row pairs that are full by the marks are kept.
+pub(crate) fn plain_planes(
+    h: Header,
+    table: &[u16],
+    r: Rows,
+    marks: &[u8],
+    base: &[u16],
+    output: &mut [u16],
+)
     requires { ⌜ Lent h r (now table) (now base) (now output) ⌝ }
-    ensures { λ _. ⌜ now (output .exit) ≡ painted (in-pairs (extent h) (r .first) (r .last)) (plain-sample h (now (table .entry)) (now (base .entry))) (now (output .entry)) ⌝ }
+    ensures { λ _. ⌜ now (output .exit) ≡ painted (in-not-full h r (now (marks .entry))) (plain-sample h (now (table .entry)) (now (base .entry))) (now (output .entry)) ⌝ }
 {
     let p = planes_of(extent_of(h));
     let codes = table.len() / 3;
-    plain_plane(h, &table[0..codes], p.y, r, base, output);
-    plain_plane(h, &table[codes..2 * codes], p.cb, r, base, output);
-    plain_plane(h, &table[2 * codes..3 * codes], p.cr, r, base, output);
+    plain_plane(h, &table[0..codes], p.y, r, marks, base, output);
+    plain_plane(h, &table[codes..2 * codes], p.cb, r, marks, base, output);
+    plain_plane(
+        h,
+        &table[2 * codes..3 * codes],
+        p.cr,
+        r,
+        marks,
+        base,
+        output,
+    );
 }
 
 // A sample, and that it has 16 bits: of what is read from a slice that is not known.

@@ -1,8 +1,8 @@
 -- A table that was filled from the plan gives what the plan gives: sample by sample, and of a job its answer, its output and its
 -- marks. Assumes nothing.
 use mathlib.Core.Path.{_≡_, refl, sym, ap, ap₂, subst, _∙_}
-use mathlib.Core.Bool.{Bool, true, false, not, cond}
-use mathlib.Core.List.{List, [], _∷_, _++_}
+use mathlib.Core.Bool.{Bool, true, false, cond}
+use mathlib.Core.List.{List, []}
 use mathlib.Core.Logic.{⊎-elim}
 use Prim.Native.Nat.{ℕ, _+_, _-_, _*_, _^_, _<_, _≤_}
 use native.Mathlib.Omega.{arith}
@@ -13,8 +13,6 @@ use borrow.Author.Tests.{eqb-true, eq-eqb}
 use Rattle.runs.specs.Runs.{painted}
 use Rattle.runs.proofs.Between.{lt-or-ge}
 use Rattle.runs.proofs.Painting.{painted-cong}
-use Rattle.refusals.specs.Refusals.{rule}
-use Rattle.refusals.proofs.Laws.{not-first}
 use Rattle.standard.specs.Mapping.{mapped}
 use Rattle.standard.specs.Residual.{reconstructed}
 use Rattle.picture.specs.Picture.{of-plane, pair-at}
@@ -25,14 +23,15 @@ use Rattle.plan.specs.Parameters.{mapping}
 use Rattle.plan.specs.Ranges.{bl-depth, hdr-depth}
 use Rattle.plan.specs.Rule7.{fitting}
 use Rattle.plan.specs.Tables.{has-mmr}
-use Rattle.rules.specs.Rules.{Source, by-plan, by-table, Given, extent, names, wrong-length, rows-rules, source-rules, rules, refusal}
+use Rattle.rules.specs.Rules.{Source, by-plan, by-table, Given, extent, names, rules}
 use Rattle.rules.proofs.Accepting.{SourceFits, Accepted, accepted}
-use Rattle.compose.specs.Composing.{mapped-at, residual-at, looked-up-at, composed-by, composed-at}
+use Rattle.compose.specs.Composing.{mapped-at, residual-at, looked-up-at, composed-by, composed-at, composes}
 use Rattle.compose.proofs.Meaning.{chroma-alone}
 use Rattle.filling.specs.Filling.{part-component, table-entry, filled}
 use Rattle.filling.proofs.Meaning.{entry-at, length-filled, at-filled, cb-maps, cr-maps}
 use Rattle.jobs.specs.Jobs as jobs
 use Rattle.jobs.specs.Jobs.{Job, job-refusal}
+use Rattle.jobs.proofs.Accepting.{accepted-job, composes-named}
 
 -- ---- a sample
 module _ (p : Plan) (fits : fitting p ≡ true) (polynomials : has-mmr p ≡ false) (base : List ℕ) (i : ℕ) (code : getD base i 0 < 2 ^ bl-depth (p .header)) where
@@ -84,20 +83,6 @@ same-composed g n a is i named = go (g .source) refl
         (ap (λ (l : List ℕ). looked-up-at (g .plan .header) l (g .base) i) (is t e) ∙ same-mapped (g .plan) (a .fits) (f .1) (g .base) i code)
 
 -- ---- a job
--- what its work is, where it is accepted
-pub work-accepted : (j : Job) (a b : ℕ) → job-refusal j a b ≡ 0 → Accepted (j .work) a
-unfolding job-refusal refusal rules
-work-accepted j a b e =
-    let g = j .work in
-    let h = g .plan .header in
-    let nine = rule 9 (wrong-length h (length (g .base)) (length (g .enhancement)) a) ∷ (source-rules (g .plan) (g .source) ++ rows-rules h (g .first) (g .count) (g .base) (g .enhancement)) in
-    let marks = rule 9 (not (eqb b (h .pairs))) in
-    let tickets = rule 8 (not (eqb (j .ticket) (j .open-ticket))) in
-    let u = not-first (rule 7 (not (fitting (g .plan)))) (tickets ∷ marks ∷ nine) refl e in
-    let v = not-first tickets (marks ∷ nine) refl (u .1) in
-    let w = not-first marks nine refl (v .1) in
-    accepted g a (rw (u .0) (w .1))
-
 -- a plain job, and one that is lent the table of its plan
 module _ (p : Plan) (open-ticket ticket first count : ℕ) (base enhancement : List ℕ) (fits : fitting p ≡ true) (polynomials : has-mmr p ≡ false) where
   abbrev plain : Job
@@ -114,20 +99,20 @@ module _ (p : Plan) (open-ticket ticket first count : ℕ) (base enhancement : L
   unfolding jobs.accepted
   same-accepted a b = ap (λ (n : ℕ). eqb n 0) (same-refusal a b)
 
-  abbrev selected : ℕ → Bool
-  selected i = names (plain .work) (pair-at (extent (p .header)) i)
-
   pub same-output : (output marks : List ℕ) → jobs.output-after lent output marks ≡ jobs.output-after plain output marks
-  unfolding jobs.output-after jobs.accepted names
+  unfolding jobs.output-after jobs.accepted composes names
   same-output output marks = rw (same-refusal (length output) (length marks)) (go (job-refusal plain (length output) (length marks)) refl)
     where
+      selected : ℕ → Bool
+      selected i = composes (plain .work) marks (pair-at (extent (p .header)) i)
+
       go : (n : ℕ) → job-refusal plain (length output) (length marks) ≡ n → cond (eqb n 0) (painted selected (jobs.sample lent) output) output ≡ cond (eqb n 0) (painted selected (jobs.sample plain) output) output
       go n e = on (eqb n 0) refl
         where
           on : (t : Bool) → eqb n 0 ≡ t → cond t (painted selected (jobs.sample lent) output) output ≡ cond t (painted selected (jobs.sample plain) output) output
           on true q =
-              let a = work-accepted lent (length output) (length marks) (same-refusal (length output) (length marks) ∙ e ∙ eqb-true n 0 q) in
-              painted-cong _ _ _ _ output (λ i b. refl) (λ i b s. same-composed (lent .work) (length output) a (λ t z. is-table t z) i s)
+              let a = accepted-job lent (length output) (length marks) (same-refusal (length output) (length marks) ∙ e ∙ eqb-true n 0 q) in
+              painted-cong _ _ _ _ output (λ i b. refl) (λ i b s. same-composed (lent .work) (length output) (a .work) (λ t z. is-table t z) i (composes-named (lent .work) marks _ s))
             where
               is-table : (t : List ℕ) → by-table (filled p) ≡ by-table t → t ≡ filled p
               is-table t z = sym (ap held z)
@@ -138,7 +123,7 @@ module _ (p : Plan) (open-ticket ticket first count : ℕ) (base enhancement : L
           on false q = refl
 
   pub same-marks : (output marks : List ℕ) → jobs.marks-after lent output marks ≡ jobs.marks-after plain output marks
-  unfolding jobs.marks-after names
+  unfolding jobs.marks-after composes names
   same-marks output marks = rw (same-accepted (length output) (length marks)) refl
 
   pub same-answer : (output marks : List ℕ) → jobs.job-answer lent output marks ≡ jobs.job-answer plain output marks

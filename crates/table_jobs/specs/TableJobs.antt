@@ -4,7 +4,7 @@ use Rattle.refusals.specs.Refusals.{Outcome, granted, denied}
 use Rattle.table_jobs.specs.declared.TableAnswer.{TableAnswer}
 use Rattle.table_jobs.specs.declared.TableAnswer.the-variants.{Done, Refused}
 
--- done, with the rows left, or refused, with the number alone
+-- done, with the rows left and the base-only ones, or refused, with the number alone
 abbrev pub says : TableAnswer → Outcome
-says (Done left) = granted (left ∷ [])
+says (Done left base-only) = granted (left ∷ base-only ∷ [])
 says (Refused k) = denied k

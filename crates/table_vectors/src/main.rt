@@ -20,7 +20,7 @@ use streams::next_number;
 use streams::nights::next_choice;
 use streams::nights::next_runs;
 use streams::nights::next_ticket;
-use streams::nights::print_left;
+use streams::nights::print_done;
 use streams::nights::print_marks;
 use streams::nights::print_open;
 use streams::nights::run_of;
@@ -41,14 +41,14 @@ struct Sizes {
 
 fn say_answer(answer: Answer) {
     match answer {
-        Answer::Done(left) => print_left(left),
+        Answer::Done(left, base_only) => print_done(left, base_only),
         Answer::Refused(number) => print_refusal(number),
     }
 }
 
 fn say_table_answer(answer: TableAnswer) {
     match answer {
-        TableAnswer::Done(left) => print_left(left),
+        TableAnswer::Done(left, base_only) => print_done(left, base_only),
         TableAnswer::Refused(number) => print_refusal(number),
     }
 }

@@ -8,6 +8,7 @@ use Rattle.spans.proofs.joined_six.Reads as joined-six-promise
 use Rattle.spans.proofs.four.Reads as four-promise
 use Rattle.spans.proofs.put_four.Reads as put-four-promise
 use Rattle.spans.proofs.look_up.Reads as look-up-promise
+use Rattle.spans.proofs.apart.look_up_in_step.Reads as look-up-in-step-promise
 use Rattle.sums.proofs.passes.sum_up.Reads as sum-up-promise
 use Rattle.sums.proofs.passes.lower_all.Reads as lower-all-promise
 use Rattle.sums.proofs.cut_out.Reads as cut-out-promise
@@ -47,6 +48,13 @@ use Rattle.speed.proofs.speed_write.Reads as speed-write-promise
 use Rattle.speed.proofs.speed_job.Reads as speed-job-promise
 use Rattle.compose.proofs.picture_size.Reads as run-length-promise
 use Rattle.compose.proofs.number.Reads as composed-number-promise
+use Rattle.compose.proofs.makes_full.Reads as makes-full-promise
+use Rattle.compose.proofs.marks_seen.Reads as marks-seen-promise
+use Rattle.marks.proofs.clear.Reads as clear-promise
+use Rattle.marks.proofs.mark.Reads as mark-promise
+use Rattle.marks.proofs.is_full.Reads as is-full-promise
+use Rattle.marks.proofs.waiting.Reads as waiting-promise
+use Rattle.marks.proofs.base_only.Reads as base-only-promise
 use Rattle.jobs.proofs.opened_number.Reads as opened-number-promise
 use Rattle.jobs.proofs.number.Reads as job-number-promise
 use Rattle.jobs.proofs.is_complete.Reads as is-complete-promise
@@ -74,17 +82,18 @@ pub record LeavesSettled : Type 0 where
   pub four : OneAnswer four-promise.Post
   pub four-put : OneContent put-four-promise.Post (λ c. now (c .left .1 .0))
   pub looked-up-output : OneContent look-up-promise.Post (λ c. now (c .left .1 .1 .0))
+  pub looked-up-in-step : OneContent look-up-in-step-promise.Post (λ c. now (c .left .1 .1 .1 .1 .1 .1 .1 .0))
   pub summed : OneContent sum-up-promise.Post (λ c. now (c .left .1 .1 .1 .1 .0))
   pub lowered-output : OneContent lower-all-promise.Post (λ c. now (c .left .1 .1 .0))
   pub cut-out : OneAnswer cut-out-promise.Post
-  pub looked-up-rows : OneContent look-up-rows-promise.Post (λ c. now (c .left .1 .1 .1 .1 .0))
+  pub looked-up-rows : OneContent look-up-rows-promise.Post (λ c. now (c .left .1 .1 .1 .1 .1 .0))
   pub added-up-rows : OneContent add-up-rows-promise.Post (λ c. now (c .left .1 .1 .1 .1 .1 .1 .1 .0))
   pub lies : OneAnswer lies-promise.Post
   pub pivots-of : OneAnswer pivots-of-promise.Post
   pub piece-of : OneAnswer piece-of-promise.Post
   pub clamp : OneAnswer clamp-promise.Post
   pub cut-at : OneAnswer cut-at-promise.Post
-  pub composed-chroma : OneContent compose-chroma-promise.Post (λ c. let tables = c .left .1 .1 .1 in now (tables .1 .1 .1 .1 .1 .0))
+  pub composed-chroma : OneContent compose-chroma-promise.Post (λ c. let tables = c .left .1 .1 .1 in now (tables .1 .1 .1 .1 .1 .1 .0))
   pub slice-table : OneAnswer slice-table-promise.Post
   pub mapped-table : OneAnswer mapped-table-promise.Post
   pub residual-table : OneAnswer residual-table-promise.Post
@@ -106,7 +115,7 @@ pub record LeavesSettled : Type 0 where
   pub refusal-of : OneAnswer refusal-of-promise.Post
   pub quantizes : OneAnswer quantizes-promise.Post
   pub least : OneAnswer least-promise.Post
-  pub plain-planes : OneContent plain-planes-promise.Post (λ c. now (c .left .1 .1 .1 .0))
+  pub plain-planes : OneContent plain-planes-promise.Post (λ c. now (c .left .1 .1 .1 .1 .0))
   pub enhanced-planes : OneContent enhanced-planes-promise.Post (λ c. now (c .left .1 .1 .1 .1 .0))
   pub speed-write : OneAnswer speed-write-promise.Post
   pub speed-slice : OneContent speed-write-promise.Post (λ c. now (c .left .1 .1 .0))
@@ -115,6 +124,13 @@ pub record LeavesSettled : Type 0 where
   pub speed-marks : OneContent speed-job-promise.Post (λ c. let pictures = c .left .1 .1 .1 .1 .1 in now (pictures .1 .1 .1 .0))
   pub run-length : OneAnswer run-length-promise.Post
   pub composed-number : OneAnswer composed-number-promise.Post
+  pub makes-full : OneAnswer makes-full-promise.Post
+  pub marks-seen : OneAnswer marks-seen-promise.Post
+  pub cleared-marks : OneContent clear-promise.Post (λ c. now (c .left .0))
+  pub marked-marks : OneContent mark-promise.Post (λ c. now (c .left .1 .1 .1 .0))
+  pub is-full : OneAnswer is-full-promise.Post
+  pub waiting : OneAnswer waiting-promise.Post
+  pub base-only : OneAnswer base-only-promise.Post
   pub written-number : OneAnswer written-number-promise.Post
   pub opened-number : OneAnswer opened-number-promise.Post
   pub job-number : OneAnswer job-number-promise.Post
@@ -122,7 +138,7 @@ pub record LeavesSettled : Type 0 where
   pub all-polynomials : OneAnswer all-polynomials-promise.Post
   pub refusal-of-pictures : OneAnswer refusal-of-pictures-promise.Post
   pub is-wrong-length : OneAnswer is-wrong-length-promise.Post
-  pub plain-plane : OneContent plain-plane-promise.Post (λ c. now (c .left .1 .1 .1 .1 .1 .0))
+  pub plain-plane : OneContent plain-plane-promise.Post (λ c. now (c .left .1 .1 .1 .1 .1 .1 .0))
   pub enhanced-plane : OneContent enhanced-plane-promise.Post (λ c. now (c .left .1 .1 .1 .1 .1 .1 .1 .1 .0))
   pub table-refusal-of : OneAnswer table-refusal-of-promise.Post
   pub table-size : OneAnswer table-size-promise.Post

@@ -17,22 +17,22 @@ abbrev Pictures : tie.Start → Bool
 Pictures st = let a = st .args in pairs-fit (a .plan .header) (a .first) (a .last) && runs-fit (a .plan .header) (length (a .base .now)) (length (a .enhancement .now)) (length (a .output .now))
 
 -- what is left by the tests
-module _ (p : Plan) (first last : ℕ) (raised1 raised2 : List ℕ) (cut : Cut) (base enhancement output : List ℕ) where
+module _ (p : Plan) (first last : ℕ) (raised1 raised2 : List ℕ) (cut : Cut) (marks base enhancement output : List ℕ) where
   abbrev numbers : Bool
   numbers = numbers-fit (p .header) (p .y .n) (p .cb .n) (p .cr .n)
 
   abbrev pictures : Bool
   pictures = pairs-fit (p .header) first last && runs-fit (p .header) (length base) (length enhancement) (length output)
 
-  no-numbers : numbers ≡ false → output ≡ chroma-after p first last raised1 raised2 cut base enhancement output
+  no-numbers : numbers ≡ false → output ≡ chroma-after p first last raised1 raised2 cut marks base enhancement output
   unfolding chroma-after
   no-numbers e = rw e refl
 
-  no-pictures : numbers ≡ true → pictures ≡ false → output ≡ chroma-after p first last raised1 raised2 cut base enhancement output
+  no-pictures : numbers ≡ true → pictures ≡ false → output ≡ chroma-after p first last raised1 raised2 cut marks base enhancement output
   unfolding chroma-after
   no-pictures e f = rw (e, f) refl
 
-  all-there : numbers ≡ true → pictures ≡ true → chroma-painted p first last raised1 raised2 cut base enhancement output ≡ chroma-after p first last raised1 raised2 cut base enhancement output
+  all-there : numbers ≡ true → pictures ≡ true → chroma-painted p first last raised1 raised2 cut marks base enhancement output ≡ chroma-after p first last raised1 raised2 cut marks base enhancement output
   unfolding chroma-after
   all-there e f = rw (e, f) refl
 
@@ -41,7 +41,7 @@ returns c =
     let st : tie.Start = search needs in
     let n : tie.After-numbers-fit = search needs in
     let a = st .args in
-    no-numbers (a .plan) (a .first) (a .last) (a .raised1 .now) (a .raised2 .now) (a .cut) (a .base .now) (a .enhancement .now) (a .output .now) (sym (n .numbers-fit .ensures) ∙ not-true _ (c .if1 .taken))
+    no-numbers (a .plan) (a .first) (a .last) (a .raised1 .now) (a .raised2 .now) (a .cut) (a .marks .now) (a .base .now) (a .enhancement .now) (a .output .now) (sym (n .numbers-fit .ensures) ∙ not-true _ (c .if1 .taken))
 
 passed : (e : tie.Else1) → let st : tie.Start = search needs in PlanReady (st .args .plan)
 passed e = let n : tie.After-numbers-fit = search needs in sym (n .numbers-fit .ensures) ∙ not-false _ (e .if1 .left)
@@ -57,7 +57,7 @@ returns-2 c =
     let e : tie.Else1 = search needs in
     let r : tie.After-runs-fit = search needs in
     let a = st .args in
-    no-pictures (a .plan) (a .first) (a .last) (a .raised1 .now) (a .raised2 .now) (a .cut) (a .base .now) (a .enhancement .now) (a .output .now) (passed e) (sym (tested r) ∙ not-true _ (c .if2 .taken))
+    no-pictures (a .plan) (a .first) (a .last) (a .raised1 .now) (a .raised2 .now) (a .cut) (a .marks .now) (a .base .now) (a .enhancement .now) (a .output .now) (passed e) (sym (tested r) ∙ not-true _ (c .if2 .taken))
 
 whole : (c : tie.Else2) → let st : tie.Start = search needs in Pictures st ≡ true
 whole c = let r : tie.After-runs-fit = search needs in sym (tested r) ∙ not-false _ (c .if2 .left)
@@ -78,7 +78,7 @@ returns-3 c =
     let w : tie.Else2 = search needs in
     let r : tie.After-with-cb = search needs in
     let a = st .args in
-    r .with-cb .ensures ∙ all-there (a .plan) (a .first) (a .last) (a .raised1 .now) (a .raised2 .now) (a .cut) (a .base .now) (a .enhancement .now) (a .output .now) (passed e) (whole w)
+    r .with-cb .ensures ∙ all-there (a .plan) (a .first) (a .last) (a .raised1 .now) (a .raised2 .now) (a .cut) (a .marks .now) (a .base .now) (a .enhancement .now) (a .output .now) (passed e) (whole w)
 
 pub compose-chroma-spec : {M : Type 1} → statement M
 compose-chroma-spec =

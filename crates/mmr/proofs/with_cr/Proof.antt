@@ -87,7 +87,7 @@ returns c =
     let st = start r in
     let a = st .args in
     w .compose-rows .ensures
-    ∙ ap (λ (q : Planes). painted (chroma-rows q (a .first) (a .last)) (plane-value (a .f) (sides r) (a .cut) q (a .base .now) (a .enhancement .now)) (a .output .now)) (planes-are m)
+    ∙ ap (λ (q : Planes). painted (chroma-rows q (a .first) (a .last) (a .marks .now)) (plane-value (a .f) (sides r) (a .cut) q (a .base .now) (a .enhancement .now)) (a .output .now)) (planes-are m)
     ∙ painted-cong _ _ _ _ (a .output .now) (λ j b. refl)
     (λ j b t. plan-value (a .plan) _ _ (a .raised1 .now) (a .raised2 .now) (a .cut) (a .base .now) (a .enhancement .now) (first-ready r) (second-ready r) (a .f) (st .pre .0 .format) j)
 

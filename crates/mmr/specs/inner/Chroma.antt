@@ -76,14 +76,15 @@ abbrev pub chroma-fits : Plan → ℕ → ℕ → ℕ → ℕ → ℕ → Bool
 chroma-fits p first last base enhancement output =
     numbers-fit (p .header) (p .y .n) (p .cb .n) (p .cr .n) && (pairs-fit (p .header) first last && runs-fit (p .header) base enhancement output)
 
-unfoldable pub chroma-painted : Plan → ℕ → ℕ → List ℕ → List ℕ → Cut → List ℕ → List ℕ → List ℕ → List ℕ
-chroma-painted p first last raised1 raised2 cut base enhancement output =
-    painted (chroma-rows (planes (extent (p .header))) first last) (chroma-value p raised1 raised2 cut base enhancement) output
+-- row pairs that are full by the marks are kept
+unfoldable pub chroma-painted : Plan → ℕ → ℕ → List ℕ → List ℕ → Cut → List ℕ → List ℕ → List ℕ → List ℕ → List ℕ
+chroma-painted p first last raised1 raised2 cut marks base enhancement output =
+    painted (chroma-rows (planes (extent (p .header))) first last marks) (chroma-value p raised1 raised2 cut base enhancement) output
 
-unfoldable pub chroma-after : Plan → ℕ → ℕ → List ℕ → List ℕ → Cut → List ℕ → List ℕ → List ℕ → List ℕ
-chroma-after p first last raised1 raised2 cut base enhancement output =
+unfoldable pub chroma-after : Plan → ℕ → ℕ → List ℕ → List ℕ → Cut → List ℕ → List ℕ → List ℕ → List ℕ → List ℕ
+chroma-after p first last raised1 raised2 cut marks base enhancement output =
     cond (chroma-fits p first last (length base) (length enhancement) (length output))
-    (chroma-painted p first last raised1 raised2 cut base enhancement output)
+    (chroma-painted p first last raised1 raised2 cut marks base enhancement output)
     output
 
 abbrev pub PlanReady : Plan → Type 0

@@ -4,9 +4,9 @@ use mathlib.Core.Bool.{Bool, cond, _||_}
 use mathlib.Core.List.{List}
 use Prim.Native.Nat.{ℕ, _-_, _*_, _/_, _%_, _≤_}
 use lib.Dec.{ltb}
-use Rattle.runs.specs.Runs.{between}
+use Rattle.marks.specs.inner.Marks.{not-full}
 use Rattle.picture.specs.declared.Planes.{Planes}
-use Rattle.picture.specs.inner.Planes.{row-start}
+use Rattle.picture.specs.inner.Planes.{row-start, in-rows}
 use Rattle.sums.specs.declared.Cut.{Cut}
 use Rattle.mmr.specs.declared.columns.Format.{Format}
 use Rattle.mmr.specs.declared.columns.Place.{Place}
@@ -16,10 +16,13 @@ use Rattle.mmr.specs.inner.Columns.{Both, cb-column, cr-column}
 abbrev pub place-of : Planes → ℕ → Place
 place-of p k = record { columns = p .cb .row; upper = row-start (p .y) k; cb = row-start (p .cb) k; cr = row-start (p .cr) k }
 
--- the row pairs from a up to, but not including, b, of Cb and of Cr
-abbrev pub chroma-rows : Planes → ℕ → ℕ → ℕ → Bool
-chroma-rows p a b j =
-    between (row-start (p .cb) a) (row-start (p .cb) b) j || between (row-start (p .cr) a) (row-start (p .cr) b) j
+-- the selected row pairs of Cb and of Cr
+abbrev pub of-both : Planes → (ℕ → Bool) → ℕ → Bool
+of-both p selected j = in-rows (p .cb) selected j || in-rows (p .cr) selected j
+
+-- those from `first` up to, but not including, `last` that are not full by the marks
+abbrev pub chroma-rows : Planes → ℕ → ℕ → List ℕ → ℕ → Bool
+chroma-rows p first last marks = of-both p (not-full first last marks)
 
 -- at an index: Cb lies before Cr, and of an index within a plane the row pair and the column are quotient and remainder
 unfoldable pub plane-value : Format → Both → Cut → Planes → List ℕ → List ℕ → ℕ → ℕ

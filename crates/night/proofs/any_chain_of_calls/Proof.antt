@@ -1,4 +1,4 @@
-use Rattle.night.proofs.Calls.{any-chain-of-calls}
+use Rattle.night.proofs.Chain.{any-chain-of-calls}
 use Rattle.night.proofs.any_chain_of_calls.Statement.{statement}
 use Rattle.night.proofs.any_chain_of_calls.Tie as tie
 

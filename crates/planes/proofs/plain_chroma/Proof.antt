@@ -16,7 +16,7 @@ returns c =
     let w : tie.After-compose-chroma = search needs in
     let a = s .args in
     w .compose-chroma .ensures
-    ∙ ap₂ (λ (t : List ℕ) (x : Cut). chroma-after (a .plan) (a .r .first) (a .r .last) t t x (a .base .now) (a .base .now) (a .output .now)) (n .no-residual .ensures) (k .cut-numbers .ensures)
+    ∙ ap₂ (λ (t : List ℕ) (x : Cut). chroma-after (a .plan) (a .r .first) (a .r .last) t t x (a .marks .now) (a .base .now) (a .base .now) (a .output .now)) (n .no-residual .ensures) (k .cut-numbers .ensures)
 
 pub plain-chroma-spec : {M : Type 1} → statement M
 plain-chroma-spec =

@@ -13,7 +13,7 @@ returns c =
     let f : tie.After-finished-table = search needs in
     let l : tie.After-look-up-rows = search needs in
     l .look-up-rows .ensures
-    ∙ ap (λ (t : List ℕ). looked-up-rows t (s .args .p) (s .args .r) (s .args .base .now) (s .args .output .now)) (f .finished-table .ensures)
+    ∙ ap (λ (t : List ℕ). looked-up-rows t (s .args .p) (s .args .r) (s .args .marks .now) (s .args .base .now) (s .args .output .now)) (f .finished-table .ensures)
 
 pub plain-plane-spec : {M : Type 1} → statement M
 plain-plane-spec = tie.close (tie.spec (λ c κs. search needs) (λ c κs. search needs) (λ c. search needs) returns)

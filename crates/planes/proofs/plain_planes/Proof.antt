@@ -47,10 +47,10 @@ returns c =
     let a = start q .args in
     let h = a .plan .header in
     rw (tested red ∙ t .if1 .taken)
-    (in-order (a .plan) (plain-plane h (a .r) (a .base .now)) (q .planes-of .result) (a .output .now) _ _ _ (planes-are red)
-    (looked-by h (a .plan .y) _ _ _ _ _ _ (one .plain-plane .ensures) (luma (blue red) .mapped-table .ensures))
-    (looked-by h (a .plan .cb) _ _ _ _ _ _ (two .plain-plane2 .ensures) (blue red .mapped-table2 .ensures))
-    (looked-by h (a .plan .cr) _ _ _ _ _ _ (three .plain-plane3 .ensures) (red .mapped-table3 .ensures)))
+    (in-order (a .plan) (plain-plane h (a .r) (a .marks .now) (a .base .now)) (q .planes-of .result) (a .output .now) _ _ _ (planes-are red)
+    (looked-by h (a .plan .y) _ _ _ _ _ _ _ (one .plain-plane .ensures) (luma (blue red) .mapped-table .ensures))
+    (looked-by h (a .plan .cb) _ _ _ _ _ _ _ (two .plain-plane2 .ensures) (blue red .mapped-table2 .ensures))
+    (looked-by h (a .plan .cr) _ _ _ _ _ _ _ (three .plain-plane3 .ensures) (red .mapped-table3 .ensures)))
 
 returns-2 : tie.Need-returns-2
 unfolding plain-picture
@@ -63,9 +63,9 @@ returns-2 c =
     let a = start q .args in
     let h = a .plan .header in
     rw (tested red ∙ t .if1 .left)
-    (plain-over (a .plan) (a .r) (q .planes-of .result) (a .base .now) (a .output .now) _ _ (planes-are red)
+    (plain-over (a .plan) (a .r) (q .planes-of .result) (a .marks .now) (a .base .now) (a .output .now) _ _ (planes-are red)
     (w .plain-chroma .ensures)
-    (looked-by h (a .plan .y) _ _ _ _ _ _ (one .plain-plane4 .ensures) (luma (blue red) .mapped-table .ensures)))
+    (looked-by h (a .plan .y) _ _ _ _ _ _ _ (one .plain-plane4 .ensures) (luma (blue red) .mapped-table .ensures)))
 
 pub plain-planes-spec : {M : Type 1} → statement M
 plain-planes-spec =

@@ -1,6 +1,6 @@
 -- The planes of a picture: row pairs that are looked up, or added up, by the tables of their components, and chroma by MMR.
 use mathlib.Core.Bool.{Bool, _&&_, cond}
-use mathlib.Core.List.{List}
+use mathlib.Core.List.{List, []}
 use Prim.Native.Nat.{ℕ}
 use Rattle.picture.specs.declared.Plane.{Plane}
 use Rattle.picture.specs.inner.Planes.{luma-plane, cb-plane, cr-plane}
@@ -15,9 +15,9 @@ use Rattle.mmr.specs.inner.Chroma.{chroma-after}
 use Rattle.rows.specs.declared.Rows.{Rows}
 use Rattle.rows.specs.inner.Rows.{looked-up-rows, added-up-rows}
 
--- one plane, without residual and with it
-abbrev pub plain-plane : Header → Rows → List ℕ → Component → Plane → List ℕ → List ℕ
-plain-plane h r base c p output = looked-up-rows (finished-table h (mapped-table h c)) p r base output
+-- one plane, without residual, where row pairs that are full by the marks are kept, and with it
+abbrev pub plain-plane : Header → Rows → List ℕ → List ℕ → Component → Plane → List ℕ → List ℕ
+plain-plane h r marks base c p output = looked-up-rows (finished-table h (mapped-table h c)) p r marks base output
 
 abbrev pub enhanced-plane : Header → Rows → List ℕ → List ℕ → Component → Plane → List ℕ → List ℕ
 enhanced-plane h r base enhancement c p output = added-up-rows (mapped-table h c) (residual-table h (c .nlq)) (cut-numbers h) p r base enhancement output
@@ -33,19 +33,19 @@ abbrev pub by-tables : Plan → Bool
 by-tables p = can-map (p .header) (p .cb) && can-map (p .header) (p .cr)
 
 -- chroma by MMR: without residual the enhancement is not looked at, and each code of it has none
-abbrev pub plain-chroma : Plan → Rows → List ℕ → List ℕ → List ℕ
-plain-chroma p r base output =
+abbrev pub plain-chroma : Plan → Rows → List ℕ → List ℕ → List ℕ → List ℕ
+plain-chroma p r marks base output =
     let none = no-residual (p .header) in
-    chroma-after p (r .first) (r .last) none none (cut-numbers (p .header)) base base output
+    chroma-after p (r .first) (r .last) none none (cut-numbers (p .header)) marks base base output
 
 abbrev pub enhanced-chroma : Plan → Cut → Rows → List ℕ → List ℕ → List ℕ → List ℕ
 enhanced-chroma p cut r base enhancement output =
     let raised = residual-pair (p .header) (p .cb .nlq) (p .cr .nlq) in
-    chroma-after p (r .first) (r .last) (raised .first) (raised .second) cut base enhancement output
+    chroma-after p (r .first) (r .last) (raised .first) (raised .second) cut [] base enhancement output
 
 -- and luma by its table
-abbrev pub plain-mixed : Plan → Rows → List ℕ → List ℕ → List ℕ
-plain-mixed p r base output = let h = p .header in plain-plane h r base (p .y) (luma-plane (extent h)) (plain-chroma p r base output)
+abbrev pub plain-mixed : Plan → Rows → List ℕ → List ℕ → List ℕ → List ℕ
+plain-mixed p r marks base output = let h = p .header in plain-plane h r marks base (p .y) (luma-plane (extent h)) (plain-chroma p r marks base output)
 
 abbrev pub enhanced-mixed : Plan → Rows → List ℕ → List ℕ → List ℕ → List ℕ
 enhanced-mixed p r base enhancement output =
@@ -53,8 +53,9 @@ enhanced-mixed p r base enhancement output =
     enhanced-plane h r base enhancement (p .y) (luma-plane (extent h)) (enhanced-chroma p (cut-numbers h) r base enhancement output)
 
 -- the three planes of a picture
-unfoldable pub plain-picture : Plan → Rows → List ℕ → List ℕ → List ℕ
-plain-picture p r base output = cond (by-tables p) (three p (plain-plane (p .header) r base) output) (plain-mixed p r base output)
+unfoldable pub plain-picture : Plan → Rows → List ℕ → List ℕ → List ℕ → List ℕ
+plain-picture p r marks base output =
+    cond (by-tables p) (three p (plain-plane (p .header) r marks base) output) (plain-mixed p r marks base output)
 
 unfoldable pub enhanced-picture : Plan → Rows → List ℕ → List ℕ → List ℕ → List ℕ
 enhanced-picture p r base enhancement output =

@@ -21,14 +21,14 @@ returns c =
     let t : tie.Then1 = search needs in
     let e : tie.After-look-up-each = search needs in
     let s = start t .args in
-    e .look-up-each .ensures ∙ sym (all-looked-up (s .p) (s .r) (s .base .now) (s .output .now) (given t .0) (given t .1) _)
+    e .look-up-each .ensures ∙ sym (all-looked-up (s .p) (s .r) (s .base .now) (s .output .now) (given t .0) (given t .1) _ _)
 
 returns-2 : tie.Need-returns-2
 returns-2 c =
     let s : tie.Start = search needs in
     let a : tie.After-lies = search needs in
     let b : tie.After-lies2 = search needs in
-    not-looked-up (s .args .p) (s .args .r) _ _ _ (s .args .base .now) (s .args .output .now) (a .lies .ensures) (b .lies2 .ensures) (c .if1 .left)
+    not-looked-up (s .args .p) (s .args .r) _ _ _ _ (s .args .base .now) (s .args .output .now) (a .lies .ensures) (b .lies2 .ensures) (c .if1 .left)
 
 pub look-up-rows-spec : {M : Type 1} → statement M
 look-up-rows-spec =

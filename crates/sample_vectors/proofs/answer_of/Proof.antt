@@ -17,6 +17,9 @@ slice-aggregate-compose-row-pairs c = sym (length-take-le _ _ (omega arith))
 slice-aggregate-compose-row-pairs-2 : tie.Need-slice-aggregate-compose-row-pairs-2
 slice-aggregate-compose-row-pairs-2 c = sym (length-take-le _ _ (omega arith))
 
+slice-aggregate-compose-row-pairs-3 : tie.Need-slice-aggregate-compose-row-pairs-3
+slice-aggregate-compose-row-pairs-3 c = search needs
+
 compose-row-pairs-requires : tie.Need-compose-row-pairs-requires
 compose-row-pairs-requires c κs = search needs
 
@@ -37,6 +40,7 @@ answer-of-spec =
     returns-2
     slice-aggregate-compose-row-pairs
     slice-aggregate-compose-row-pairs-2
+    slice-aggregate-compose-row-pairs-3
     compose-row-pairs-requires
     print-answer-requires
     same-length

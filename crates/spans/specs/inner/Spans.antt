@@ -1,13 +1,13 @@
 -- What the loops over runs of samples write at an index, and what they join. An index of a table is taken below its
 -- size, so any sample is one.
 use mathlib.Core.Path.{_≡_}
-use mathlib.Core.Bool.{cond}
+use mathlib.Core.Bool.{Bool, _&&_, _||_, cond}
 use mathlib.Core.List.{List}
-use Prim.Native.Nat.{ℕ, zero, suc, _+_, _*_, _/_, _%_, _^_, _<_, min}
+use Prim.Native.Nat.{ℕ, zero, suc, _+_, _*_, _/_, _%_, _^_, _<_, _≤_, min}
 use lib.Bits.{bitOr}
-use lib.Dec.{ltb}
+use lib.Dec.{leb, ltb}
 use lib.ListN.{length}
-use Rattle.runs.specs.Runs.{painted}
+use Rattle.runs.specs.Runs.{painted, between}
 use Rattle.runs.specs.inner.Loops.{at, below}
 
 -- what a table of 1024 places has for a sample
@@ -40,6 +40,25 @@ Joins f i x = (k : ℕ) → k < 4 → sample-of x k ≡ f (i + k)
 -- a run after four samples were stored at its start; as it was where it has no four
 unfoldable pub put-four : ℕ → List ℕ → List ℕ
 put-four x run = cond (ltb (length run) 4) run (painted (below 4) (sample-of x) run)
+
+-- four stretches of n places, from a, b, c and d on: whether they end within so many places, by the facts and by the test; which
+-- indices they have; and a run after the samples of them were looked up
+module _ (a b c d n : ℕ) where
+  pub record FourWithin (places : ℕ) : Type 0 where
+    pub first : a + n ≤ places
+    pub second : b + n ≤ places
+    pub third : c + n ≤ places
+    pub fourth : d + n ≤ places
+
+  unfoldable pub four-lie : ℕ → Bool
+  four-lie places = (leb (a + n) places && leb (b + n) places) && (leb (c + n) places && leb (d + n) places)
+
+  unfoldable pub in-four : ℕ → Bool
+  in-four j = ((between a (a + n) j || between b (b + n) j) || between c (c + n) j) || between d (d + n) j
+
+  unfoldable pub in-step : List ℕ → List ℕ → List ℕ → List ℕ
+  in-step table base output =
+      cond (four-lie (min (length base) (length output))) (painted in-four (looked-up table base) output) output
 
 -- every bit that one of the first n numbers of a sequence has
 unfoldable pub bits-below : (ℕ → ℕ) → ℕ → ℕ

@@ -1,13 +1,14 @@
 -- What the private functions ask and give: row pairs whose mapped samples stand in a lent table.
 use mathlib.Core.Path.{_≡_}
-use mathlib.Core.Bool.{true, _&&_}
+use mathlib.Core.Bool.{Bool, true, _&&_}
 use mathlib.Core.List.{List}
 use Prim.Native.Nat.{ℕ, _^_, _<_}
 use lib.IntN.{pos}
 use lib.ListN.{length}
 use Rattle.runs.specs.inner.Loops.{at}
+use Rattle.marks.specs.inner.Marks.{not-full}
 use Rattle.standard.specs.Residual.{residual, reconstructed}
-use Rattle.picture.specs.Picture.{of-plane, in-pairs}
+use Rattle.picture.specs.Picture.{of-plane, pair-at, in-pairs}
 use Rattle.picture.specs.inner.Planes.{InPicture}
 use Rattle.plan.specs.declared.Header.{Header}
 use Rattle.plan.specs.declared.Nlq.{Nlq}
@@ -34,6 +35,10 @@ pub record Enhanced (h : Header) (r : Rows) (y cb cr : Nlq) (enhancement : List 
   pub cr-fits : (header-fits h && nlq-fits h cr) ≡ true
   pub in-enhancement : InPicture (extent h) (r .first) (r .last) (length enhancement)
   pub code : (i : ℕ) → i < length enhancement → in-pairs (extent h) (r .first) (r .last) i ≡ true → at enhancement i < 2 ^ el-depth h
+
+-- the sample at index i lies in one of the row pairs, and that one is not full by the marks
+abbrev pub in-not-full : Header → Rows → List ℕ → ℕ → Bool
+in-not-full h r marks i = not-full (r .first) (r .last) marks (pair-at (extent h) i)
 
 -- the sample at index i, without residual and with it
 unfoldable pub plain-sample : Header → List ℕ → List ℕ → ℕ → ℕ

@@ -7,10 +7,10 @@ use Rattle.compose_file.proofs.pictures.compose_picture.Statement.{stat
 use Rattle.compose_file.proofs.pictures.compose_picture.Tie as tie
 
 abbrev Inv-loop : tie.InvT-loop
-Inv-loop names standby plan f picture start base₀ enhancement₀ output₀ marks₀ h pairs first₀ base enhancement output marks first = (length base ≡ 98304) × ((length enhancement ≡ 98304) × ((length output ≡ 98304) × (length marks ≡ most-pairs)))
+Inv-loop names way plan f picture start base₀ enhancement₀ output₀ marks₀ h pairs first₀ base enhancement output marks first = (length base ≡ 98304) × ((length enhancement ≡ 98304) × ((length output ≡ 98304) × (length marks ≡ most-pairs)))
 
 abbrev μ-loop : tie.MeasureT-loop
-μ-loop names standby plan f picture start base₀ enhancement₀ output₀ marks₀ h pairs first₀ base enhancement output marks first = pairs - first
+μ-loop names way plan f picture start base₀ enhancement₀ output₀ marks₀ h pairs first₀ base enhancement output marks first = pairs - first
 
 loop-holds : tie.Need-loop-holds Inv-loop μ-loop
 loop-holds c = (refl, (refl, (refl, refl)))

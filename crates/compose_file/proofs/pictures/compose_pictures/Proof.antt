@@ -5,10 +5,10 @@ use Rattle.compose_file.proofs.pictures.compose_pictures.Statement.{sta
 use Rattle.compose_file.proofs.pictures.compose_pictures.Tie as tie
 
 abbrev Inv-loop : tie.InvT-loop
-Inv-loop names standby plan f start₀ picture₀ start picture = Unit {0}
+Inv-loop names way plan f start₀ picture₀ start picture = Unit {0}
 
 abbrev μ-loop : tie.MeasureT-loop
-μ-loop names standby plan f start₀ picture₀ start picture = f .pictures - picture
+μ-loop names way plan f start₀ picture₀ start picture = f .pictures - picture
 
 pub compose-pictures-spec : {M : Type 1} → statement M
 compose-pictures-spec =

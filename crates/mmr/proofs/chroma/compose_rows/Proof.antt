@@ -1,27 +1,30 @@
--- `mmr::chroma::compose_rows` meets its contract. The invariant: the row pairs before k are painted. Assumes nothing.
+-- `mmr::chroma::compose_rows` meets its contract. The invariant: those of the row pairs before k that are not full are painted. Assumes nothing.
 use borrow.Author.Needs.{needs}
+use borrow.Author.Tests.{not-true, not-false}
 use mathlib.Core.Path.{_≡_, sym, ap, subst, _∙_}
+use mathlib.Core.Logic.{inl, inr}
 use Prim.Native.Nat.{ℕ, _+_, _-_, _≤_}
 use native.Mathlib.Omega.{arith}
 use lib.ListN.{length}
 use Rattle.runs.specs.Runs.{painted}
 use Rattle.runs.proofs.Painting.{length-painted}
+use Rattle.marks.proofs.Keeping.{none-yet, one-more, one-kept}
 use Rattle.mmr.specs.declared.columns.Place.{Place}
 use Rattle.mmr.specs.inner.Steps.{side}
 use Rattle.mmr.specs.inner.Columns.{Both, both, PlaceGiven, two-rows, row-value}
 use Rattle.mmr.specs.inner.Rows.{place-of, chroma-rows, plane-value, RowsGiven}
-use Rattle.mmr.proofs.Pairs.{one-pair, pair-place, no-pairs, pair-more}
+use Rattle.mmr.proofs.Pairs.{one-pair, pair-place, no-pairs, pairs-kept, pair-more}
 use Rattle.mmr.proofs.chroma.compose_rows.Statement.{statement}
 use Rattle.mmr.proofs.chroma.compose_rows.Tie as tie
 
 abbrev Inv-loop : tie.InvT-loop
-Inv-loop f p first last pivots1 kinds1 rows1 raised1 pivots2 kinds2 rows2 raised2 cut base enhancement output₀ k₀ output k =
+Inv-loop f p first last pivots1 kinds1 rows1 raised1 pivots2 kinds2 rows2 raised2 cut marks base enhancement output₀ k₀ output k =
     (first ≤ k)
     × ((k ≤ last)
-    × (output ≡ painted (chroma-rows p first k) (plane-value f (both (side (f .cb .n) pivots1 kinds1 rows1) raised1 (side (f .cr .n) pivots2 kinds2 rows2) raised2) cut p base enhancement) output₀))
+    × (output ≡ painted (chroma-rows p first k marks) (plane-value f (both (side (f .cb .n) pivots1 kinds1 rows1) raised1 (side (f .cr .n) pivots2 kinds2 rows2) raised2) cut p base enhancement) output₀))
 
 abbrev μ-loop : tie.MeasureT-loop
-μ-loop f p first last pivots1 kinds1 rows1 raised1 pivots2 kinds2 rows2 raised2 cut base enhancement output₀ k₀ output k =
+μ-loop f p first last pivots1 kinds1 rows1 raised1 pivots2 kinds2 rows2 raised2 cut marks base enhancement output₀ k₀ output k =
     last - k
 
 abbrev Start : Type 0
@@ -63,14 +66,18 @@ compose-columns-requires c κs =
 
 loop-again : tie.Need-loop-again Inv-loop μ-loop
 loop-again c =
-    let w : tie.After-compose-columns Inv-loop μ-loop = search needs in
-    let t : Placed = search needs in
-    let i = inside t in
+    let u : tie.After-is-full Inv-loop μ-loop = search needs in
+    let i : In = search needs in
     let st = start i in
     let a = st .args in
     let l = i .before .loop in
-    let said = w .compose-columns .ensures ∙ ap (λ (q : Place). painted (two-rows q (q .columns)) (row-value (a .f) (given st) (a .cut) q (a .base .now) (a .enhancement .now)) (l .output)) (t .place-of .ensures) in
-    (omega arith, (omega arith, pair-more (a .f) (given st) (a .cut) (a .p) (a .base .now) (a .enhancement .now) (a .output .now) (a .first) (l .k) (l .inv .0) (pair i _ (st .pre .1 .0)) (l .inv .1 .1) said))
+    let m = a .marks .now in
+    elim (c .if1 .came) [
+      | inl w ↦
+          let said = w .6 ∙ w .3 .ensures ∙ ap (λ (q : Place). painted (two-rows q (q .columns)) (row-value (a .f) (given st) (a .cut) q (a .base .now) (a .enhancement .now)) (l .output)) (w .1 .ensures) in
+          (omega arith, (omega arith, pair-more (a .f) (given st) (a .cut) (a .p) (a .base .now) (a .enhancement .now) (a .output .now) _ _ _ (l .inv .1 .1) (l .k) (λ j. one-more _ m _ (l .inv .0) j (sym (u .is-full .ensures) ∙ not-true _ (w .0 .taken))) (pair i _ (st .pre .1 .0)) said))
+      | inr w ↦ (omega arith, (omega arith, w .1 ∙ pairs-kept _ _ _ _ _ _ _ _ _ _ (l .inv .1 .1) (λ j. one-kept _ m _ (l .inv .0) j (sym (u .is-full .ensures) ∙ not-false _ (w .0 .left)))))
+    ]
 
 returns : tie.Need-returns Inv-loop μ-loop
 returns c =
@@ -78,7 +85,7 @@ returns c =
     let st : Start = search needs in
     let a = st .args in
     let e : lp .loop .k ≡ a .last = omega (arith, lp .loop .inv .1 .0, c .loop-test) in
-    lp .loop .inv .1 .1 ∙ ap (λ (n : ℕ). painted (chroma-rows (a .p) (a .first) n) (plane-value (a .f) (given st) (a .cut) (a .p) (a .base .now) (a .enhancement .now)) (a .output .now)) e
+    lp .loop .inv .1 .1 ∙ ap (λ (n : ℕ). painted (chroma-rows (a .p) (a .first) n (a .marks .now)) (plane-value (a .f) (given st) (a .cut) (a .p) (a .base .now) (a .enhancement .now)) (a .output .now)) e
 
 pub compose-rows-spec : {M : Type 1} → statement M
 compose-rows-spec =
@@ -86,7 +93,8 @@ compose-rows-spec =
     (tie.spec
     Inv-loop
     μ-loop
-    (λ c. let st : Start = search needs in (omega arith, (st .pre .1 .0 .forward, no-pairs _ _ _ _ _ _ _ _)))
+    (λ c. let st : Start = search needs in (omega arith, (st .pre .1 .0 .forward, no-pairs _ _ _ _ _ _ _ _ (none-yet _ _))))
+    (λ c κs. search needs)
     (λ c κs. let i : In = search needs in pair i _ (start i .pre .1 .0))
     compose-columns-requires
     (λ c. let i : In = search needs in let h = i .loop-test in search needs)

@@ -10,7 +10,9 @@ use Rattle.plan.specs.declared.Plan.{Plan}
 use Rattle.jobs.specs.Jobs.{Job, job-answer, opening-accepted, opening-answer, opening-refusal}
 use Rattle.calls.specs.Calls.{Memory, memory, opening-plan, opening-ticket, marks-before, marks-opened}
 use Rattle.calls.specs.Calls.{AnyJobCall, plain, lent, any-done}
-use Rattle.night.specs.Night.{step, run, opened, Leaves, Calls, none, more, answers, AnyChainOfCalls}
+use Rattle.night.specs.Sequence.{step, run, opened}
+use Rattle.night.specs.Night.{Leaves}
+use Rattle.night.specs.Chain.{Calls, none, more, answers, AnyChainOfCalls}
 use Rattle.night.proofs.Night.{standby-night}
 
 -- a call of either kind ends as its promise says
@@ -34,8 +36,8 @@ opened-as p ticket n h = go (opening-refusal p n) h
     go zero q = (refl, refl)
     go (suc k) q = absurd (true≢false q)
 
-as-said : {o p : Outcome} {left : ℕ} → o ≡ p → Leaves o left → Leaves p left
-as-said {left = left} e l = subst (λ (x : Outcome). Leaves x left) e l
+as-said : {o p : Outcome} {left base : ℕ} → o ≡ p → Leaves o left base → Leaves p left base
+as-said {left = left} {base = base} e l = subst (λ (x : Outcome). Leaves x left base) e l
 
 pub any-chain-of-calls : AnyChainOfCalls
 any-chain-of-calls o opens base enhancement output js os m calls ks =
