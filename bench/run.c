@@ -208,8 +208,8 @@ int main(void)
            "| lent / whole picture |\n|---|---|---|---|---|---|---|---|---|\n",
            MANY_RUNS);
     each_row(1920, 1080, polynomials, POLYNOMIALS, against_lent_c);
-    printf("\nOne row pair that is sent again and again, so that its samples are in the caches, over the time a sample of the "
-           "whole picture, lent; 3840 x 2160:\n\n"
+    printf("\nOne row pair that is sent again and again, so that its samples are in the caches, over the time a sample of "
+           "the\nwhole picture, lent; 3840 x 2160:\n\n"
            "| samples | pieces | enhancement | whole picture, ns | proved, lent | C, lent | proved, plain |\n"
            "|---|---|---|---|---|---|---|\n");
     near_rows();
