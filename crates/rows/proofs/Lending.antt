@@ -102,7 +102,7 @@ row-of-painted p first last s f l now g e k b =
     subst (λ (n : ℕ). InPlane p k (k + 1) n) (sym (ap length e ∙ length-painted s f l)) (row-of p first last (length l) g k b)
 
 -- ---- the whole, where the row pairs lie within the runs, and where they do not
-both : (a b : Bool) → (a && b) ≡ true → (a ≡ true) × (b ≡ true)
+pub both : (a b : Bool) → (a && b) ≡ true → (a ≡ true) × (b ≡ true)
 both true b h = (refl, h)
 both false b h = absurd (true≢false (sym h))
 

@@ -3,7 +3,7 @@ use marks::is_full;
 use picture::Plane;
 use spans::apart::look_up_in_step;
 ghost use mathlib.Core.Path.{_≡_};
-ghost use Prim.Native.Nat.{_≤_, min};
+ghost use Prim.Native.Nat.{_%_, _≤_, min};
 ghost use lib.ListN.{length};
 ghost use Rattle.runs.specs.Runs.{painted};
 ghost use Rattle.spans.specs.inner.Spans.{looked-up, FourWithin, in-four};
@@ -25,7 +25,7 @@ pub(crate) fn next_open(marks: &[u8], k: usize, last: usize) -> usize
     j
 }
 
-// Looks four row pairs up, in step.
+// Looks four row pairs up, in step: those of a plane whose row pairs are whole lines of the caches.
 pub(crate) fn look_up_apart(
     table: &[u16; 1024],
     p: Plane,
@@ -36,7 +36,7 @@ pub(crate) fn look_up_apart(
     base: &[u16],
     output: &mut [u16],
 )
-    requires { ⌜ FourWithin (row-start p a) (row-start p b) (row-start p c) (row-start p d) (p .row) (min (length (now base)) (length (now output))) ⌝ }
+    requires { ⌜ FourWithin (row-start p a) (row-start p b) (row-start p c) (row-start p d) (p .row) (min (length (now base)) (length (now output))) × (p .row % 32 ≡ 0) ⌝ }
     ensures { λ _. ⌜ now (output .exit) ≡ painted (in-four (row-start p a) (row-start p b) (row-start p c) (row-start p d) (p .row)) (looked-up (now (table .entry)) (now (base .entry))) (now (output .entry)) ⌝ }
 {
     let start = p.start;

@@ -28,7 +28,8 @@ fn look_up_row(table: &[u16; 1024], p: Plane, k: usize, base: &[u16], output: &m
 }
 
 // Looks row pair k up where it is not full by the marks, and where the one after it is full, so that it stands apart,
-// the next three that are not full with it, in step. Gives the first row pair that is not dealt with.
+// the next three that are not full with it, in step, if they are whole lines of the caches. Gives the first row pair
+// that is not dealt with.
 fn look_up_next(
     table: &[u16; 1024],
     p: Plane,
@@ -46,7 +47,7 @@ fn look_up_next(
     if is_full(marks, k) {
         return k + 1;
     }
-    if is_full(marks, k + 1) {
+    if is_full(marks, k + 1) & (p.row % 32 == 0) {
         let b = next_open(marks, k, last);
         let c = next_open(marks, b, last);
         let d = next_open(marks, c, last);

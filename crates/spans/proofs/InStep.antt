@@ -3,12 +3,12 @@ use mathlib.Core.Path.{_≡_, refl, sym, ap, ap₂, subst, _∙_}
 use mathlib.Core.Bool.{Bool, true, false, _&&_, _||_, true≢false}
 use mathlib.Core.List.{List}
 use mathlib.Core.Logic.{⊎-elim}
-use Prim.Native.Nat.{ℕ, _+_, _-_, _<_, _≤_, min}
+use Prim.Native.Nat.{ℕ, _+_, _-_, _%_, _<_, _≤_, min}
 use native.Mathlib.Nat.{add-zero}
 use native.Mathlib.Omega.{arith}
-use lib.Dec.{leb}
+use lib.Dec.{leb, eqb}
 use lib.ListN.{length}
-use borrow.Author.Tests.{le-leb, lt-leb, leb-true}
+use borrow.Author.Tests.{le-leb, lt-leb, leb-true, eq-eqb, eqb-true}
 use Rattle.runs.specs.Runs.{painted, between}
 use Rattle.runs.proofs.Between.{lt-or-ge, between-empty, between-join}
 use Rattle.runs.proofs.Painting.{length-painted, painted-none, painted-cong, painted-over, painted-on}
@@ -48,13 +48,17 @@ module _ (a b c d n : ℕ) where
   within-lie places g =
       rw (le-leb (a + n) places (g .first), le-leb (b + n) places (g .second), le-leb (c + n) places (g .third), le-leb (d + n) places (g .fourth))
 
-  -- ---- the whole, where they lie within both runs, and where they do not
-  module _ (table base output : List ℕ) where
-    pub all-in-step : FourWithin a b c d n (min (length base) (length output)) → in-step a b c d n table base output ≡ painted (in-four a b c d n) (looked-up table base) output
-    unfolding in-step
-    all-in-step g = rw (within-lie _ g)
+  -- whole lines that lie within so many places
+  pub whole-within : (places : ℕ) → (eqb (n % 32) 0 && four-lie a b c d n places) ≡ true → FourWithin a b c d n places × (n % 32 ≡ 0)
+  whole-within places h = let t = both (eqb (n % 32) 0) _ h in (four-within places (t .1), eqb-true (n % 32) 0 (t .0))
 
-    pub none-in-step : four-lie a b c d n (min (length base) (length output)) ≡ false → output ≡ in-step a b c d n table base output
+  -- ---- the whole, where they are such, and where they are not
+  module _ (table base output : List ℕ) where
+    pub all-in-step : FourWithin a b c d n (min (length base) (length output)) → n % 32 ≡ 0 → in-step a b c d n table base output ≡ painted (in-four a b c d n) (looked-up table base) output
+    unfolding in-step
+    all-in-step g whole = rw (eq-eqb (n % 32) 0 whole, within-lie _ g)
+
+    pub none-in-step : (eqb (n % 32) 0 && four-lie a b c d n (min (length base) (length output))) ≡ false → output ≡ in-step a b c d n table base output
     unfolding in-step
     none-in-step h = rw h
 

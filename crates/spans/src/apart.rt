@@ -2,9 +2,8 @@
 // lies between them.
 use crate::least;
 use crate::look_up_eight;
-use crate::looked_up;
 ghost use mathlib.Core.Path.{_≡_};
-ghost use Prim.Native.Nat.{_+_, _<_, _≤_, min};
+ghost use Prim.Native.Nat.{_+_, _%_, _≤_, min};
 ghost use lib.Dec.{leb};
 ghost use lib.ListN.{length};
 ghost use Rattle.runs.specs.Runs.{painted, between};
@@ -25,32 +24,6 @@ fn four_lie(a: usize, b: usize, c: usize, d: usize, n: usize, places: usize) -> 
 {
     (ends_within(a, n, places) & ends_within(b, n, places))
         & (ends_within(c, n, places) & ends_within(d, n, places))
-}
-
-fn look_up_one(table: &[u16; 1024], base: &[u16], i: usize, output: &mut [u16])
-    requires { ⌜ (i < length (now base)) × (i < length (now output)) ⌝ }
-    ensures { λ _. ⌜ now (output .exit) ≡ painted (between i (i + 1)) (looked-up (now (table .entry)) (now (base .entry))) (now (output .entry)) ⌝ }
-{
-    output[i] = looked_up(table, base, i);
-}
-
-// One sample of each stretch.
-fn one_of_each(
-    table: &[u16; 1024],
-    base: &[u16],
-    a: usize,
-    b: usize,
-    c: usize,
-    d: usize,
-    output: &mut [u16],
-)
-    requires { ⌜ FourWithin a b c d 1 (min (length (now base)) (length (now output))) ⌝ }
-    ensures { λ _. ⌜ now (output .exit) ≡ painted (in-four a b c d 1) (looked-up (now (table .entry)) (now (base .entry))) (now (output .entry)) ⌝ }
-{
-    look_up_one(table, base, a, output);
-    look_up_one(table, base, b, output);
-    look_up_one(table, base, c, output);
-    look_up_one(table, base, d, output);
 }
 
 // As many samples as a line of the caches has bytes for: fewer a turn, and a stretch is left before its line is used up.
@@ -93,7 +66,7 @@ fn look_up_four_stretches(
     base: &[u16],
     output: &mut [u16],
 )
-    requires { ⌜ FourWithin a b c d n (min (length (now base)) (length (now output))) ⌝ }
+    requires { ⌜ FourWithin a b c d n (min (length (now base)) (length (now output))) × (n % 32 ≡ 0) ⌝ }
     ensures { λ _. ⌜ now (output .exit) ≡ painted (in-four a b c d n) (looked-up (now (table .entry)) (now (base .entry))) (now (output .entry)) ⌝ }
 {
     let turns = n / 32;
@@ -103,15 +76,10 @@ fn look_up_four_stretches(
         line_of_each(table, base, a + i, b + i, c + i, d + i, output);
         t += 1;
     }
-    let mut i = 32 * turns;
-    while i < n {
-        one_of_each(table, base, a + i, b + i, c + i, d + i, output);
-        i += 1;
-    }
 }
 
 // Writes what the table has for each sample of four stretches, of n samples from a, b, c and d on: in step, a
-// line of each a turn. Where they do not all lie within both runs, nothing is written.
+// line of each a turn. Where they are no whole lines, or do not all lie within both runs, nothing is written.
 pub fn look_up_in_step(
     table: &[u16; 1024],
     a: usize,
@@ -124,7 +92,7 @@ pub fn look_up_in_step(
 )
     ensures { λ _. ⌜ now (output .exit) ≡ in-step a b c d n (now (table .entry)) (now (base .entry)) (now (output .entry)) ⌝ }
 {
-    if four_lie(a, b, c, d, n, least(base.len(), output.len())) {
+    if (n % 32 == 0) & four_lie(a, b, c, d, n, least(base.len(), output.len())) {
         look_up_four_stretches(table, a, b, c, d, n, base, output);
     }
 }

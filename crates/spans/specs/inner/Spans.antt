@@ -5,7 +5,7 @@ use mathlib.Core.Bool.{Bool, _&&_, _||_, cond}
 use mathlib.Core.List.{List}
 use Prim.Native.Nat.{ℕ, zero, suc, _+_, _*_, _/_, _%_, _^_, _<_, _≤_, min}
 use lib.Bits.{bitOr}
-use lib.Dec.{leb, ltb}
+use lib.Dec.{leb, ltb, eqb}
 use lib.ListN.{length}
 use Rattle.runs.specs.Runs.{painted, between}
 use Rattle.runs.specs.inner.Loops.{at, below}
@@ -58,7 +58,7 @@ module _ (a b c d n : ℕ) where
 
   unfoldable pub in-step : List ℕ → List ℕ → List ℕ → List ℕ
   in-step table base output =
-      cond (four-lie (min (length base) (length output))) (painted in-four (looked-up table base) output) output
+      cond (eqb (n % 32) 0 && four-lie (min (length base) (length output))) (painted in-four (looked-up table base) output) output
 
 -- every bit that one of the first n numbers of a sequence has
 unfoldable pub bits-below : (ℕ → ℕ) → ℕ → ℕ

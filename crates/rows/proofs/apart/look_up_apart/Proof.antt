@@ -9,7 +9,7 @@ returns : tie.Need-returns
 returns c =
     let s : tie.Start = search needs in
     let l : tie.After-look-up-in-step = search needs in
-    l .look-up-in-step .ensures ∙ all-in-step _ _ _ _ _ _ _ _ (s .pre)
+    l .look-up-in-step .ensures ∙ all-in-step _ _ _ _ _ _ _ _ (s .pre .0) (s .pre .1)
 
 pub look-up-apart-spec : {M : Type 1} → statement M
 look-up-apart-spec =

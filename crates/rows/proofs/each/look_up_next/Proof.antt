@@ -3,8 +3,9 @@ use mathlib.Core.Path.{_≡_, sym, _∙_}
 use mathlib.Core.Bool.{false}
 use native.Mathlib.Omega.{arith}
 use borrow.Author.Needs.{needs}
+use borrow.Author.Tests.{eqb-true}
 use Rattle.marks.specs.Marks.{full-at}
-use Rattle.rows.proofs.Lending.{row-of}
+use Rattle.rows.proofs.Lending.{row-of, both}
 use Rattle.rows.proofs.Standing.{four-stand, kept-next, one-next, four-next}
 use Rattle.rows.proofs.each.look_up_next.Statement.{statement}
 use Rattle.rows.proofs.each.look_up_next.Tie as tie
@@ -24,8 +25,10 @@ look-up-apart-requires c κs =
     let m : tie.After-next-open2 = search needs in
     let d : tie.After-next-open3 = search needs in
     let t : tie.Then3 = search needs in
+    let w : tie.Then2 = search needs in
+    let g : tie.After-is-full2 = search needs in
     let last = t .if3 .taken in
-    four-stand _ _ _ _ _ (s .pre .1 .0) (s .pre .1 .1) _ _ _ _ (s .pre .0) (omega (arith, m .next-open2 .ensures .from, d .next-open3 .ensures .from)) (omega (arith, d .next-open3 .ensures .from)) last
+    (four-stand _ _ _ _ _ (s .pre .1 .0) (s .pre .1 .1) _ _ _ _ (s .pre .0) (omega (arith, m .next-open2 .ensures .from, d .next-open3 .ensures .from)) (omega (arith, d .next-open3 .ensures .from)) last, eqb-true _ 0 (both (g .is-full2 .result) _ (w .if2 .taken) .1))
 
 returns-2 : tie.Need-returns-2
 returns-2 c =
