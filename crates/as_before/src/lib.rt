@@ -1,4 +1,6 @@
 // What requests left as it was. The functions compute nothing: their promises are the theorems.
+#![tactic(auto)]
+
 ghost use Rattle.as_before.specs.VersionOne.{VersionOneAsBefore};
 ghost use Rattle.as_before.specs.Polynomials.{PolynomialsAsBefore};
 

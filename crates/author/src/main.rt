@@ -1,6 +1,8 @@
 // Makes composing blocks of texts, and shows the texts of blocks (docs/TEXT.md): author TEXT BLOCK ..., where `--text`
 // in the place of TEXT has the text of BLOCK said. What is said goes to standard output, and the last line for each two
 // words is `written` or `shown`, or the same after `not `; before that stands why. The command ./author starts it.
+#![tactic(auto)]
+
 mod making; // a block from a text
 mod room; // how long texts and blocks are
 mod showing; // a text from a block

@@ -1,4 +1,6 @@
 // The composing block, read to a plan.
+#![tactic(auto)]
+
 ghost use Rattle.std.specs.Prelude.{◌≡◌, true, ◌+◌, ◌≤◌, length};
 ghost use Rattle.plan.specs.Ranges.{header_fits};
 ghost use Rattle.block.specs.Reading.{refusal, sections, body, read};
@@ -13,7 +15,7 @@ use sections::{Found, read_section};
 
 // What reading comes to: 0 and the plan, or the refusal's number, the byte and the field where the failure was met, and a plan
 // of zeros. Rules 1 and 2 name no field.
-#[derive(Drop)]
+#[derive(Clone, Copy)]
 pub struct Reading {
     pub number: u8,
     pub place: usize,

@@ -4,6 +4,8 @@
 // The input: the number of base blocks (1 byte), and for each its length (2 bytes) and its bytes. Then cases to the
 // end: the base block's index (1 byte), the part that is read, from and to (2 bytes each), and the number of edits
 // (1 byte), each an offset (2 bytes) and the new byte.
+#![tactic(auto)]
+
 mod text; // numbers as text, in a line
 mod places; // a plan's places, in a line
 

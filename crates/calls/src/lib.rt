@@ -1,4 +1,6 @@
 // Calls that have ended as their promises say. The functions compute nothing: their promises are the theorems.
+#![tactic(auto)]
+
 ghost use Rattle.calls.specs.Settled.{Settled};
 ghost use Rattle.calls.specs.inner.Leaves.{LeavesSettled};
 ghost use Rattle.calls.specs.Alike.{BothCallsAlike};

@@ -1,4 +1,6 @@
 // The composing process over pictures: row pairs of a base picture, perhaps with an enhancement picture, to HDR samples.
+#![tactic(auto)]
+
 ghost use Rattle.std.specs.Prelude.{◌≡◌, ◌≤◌, length};
 ghost use Rattle.picture.specs.Picture.{picture_size};
 ghost use Rattle.rules.specs.Rules.{given, extent};
@@ -12,7 +14,7 @@ use rows::Rows;
 use rules::{extent_of, is_used, refusal_of};
 
 // What composing row pairs comes to: they are written, or the call is refused by a number and nothing is written.
-#[derive(Drop)]
+#[derive(Clone, Copy)]
 pub enum Composed {
     Written,
     Refused(u8),

@@ -2,6 +2,8 @@
 // may be `none` and `--late` stands before each four words for which the enhancement comes late. Pictures are raw
 // planar 4:2:0, two bytes a sample, the low byte first. What is said goes to standard output, and the last line for
 // each four words is `written` or `not written`; before `not written` stands why. The command ./compose starts it.
+#![tactic(auto)]
+
 mod night; // the jobs of one band
 mod pictures; // all bands of all pictures
 

@@ -8,7 +8,7 @@ use plan::Plan;
 use saying::{say, say_number};
 
 // What the jobs of a band have in common.
-#[derive(Drop)]
+#[derive(Clone, Copy)]
 pub(crate) struct Task {
     pub(crate) names: Names,
     pub(crate) band: Band,

@@ -1,5 +1,7 @@
 // Fields of bytes, read from first byte to last. A cursor that met a failure keeps it: its number, its place and which field
 // failed; every later field is then 0. So no reader has to ask whether a failure was met.
+#![tactic(auto)]
+
 pub mod numbers; // big-endian numbers that stand at a place
 
 ghost use Rattle.std.specs.Prelude.{true, ◌≡◌, ◌^◌, ◌≤◌, ◌<◌, leb, ltb};
@@ -9,7 +11,7 @@ ghost use Rattle.fields.specs.inner.Cursors.{start, halted, step, judged, over};
 use numbers::{number, width_of};
 
 // Which field: a kind, by the numbers of the crate that reads it, and as many indices as it has.
-#[derive(Drop)]
+#[derive(Clone, Copy)]
 pub struct Name {
     pub kind: u8,
     pub first: usize,
@@ -17,7 +19,7 @@ pub struct Name {
     pub third: usize,
 }
 
-#[derive(Drop)]
+#[derive(Clone, Copy)]
 pub enum Width {
     One,
     Two,
@@ -25,14 +27,14 @@ pub enum Width {
 }
 
 // What is asked of a field: its name, its width, and the refusal's number where it runs past the bytes.
-#[derive(Drop)]
+#[derive(Clone, Copy)]
 pub struct Ask {
     pub name: Name,
     pub width: Width,
     pub past: u8,
 }
 
-#[derive(Drop)]
+#[derive(Clone, Copy)]
 pub struct Cursor {
     pub at: usize, // the first byte of the next field, or of the field that failed
     pub stopped: bool, // whether a failure was met
@@ -40,7 +42,7 @@ pub struct Cursor {
     pub name: Name, // which field failed
 }
 
-#[derive(Drop)]
+#[derive(Clone, Copy)]
 pub struct Field {
     pub value: u64,
     pub next: Cursor,

@@ -4,7 +4,7 @@ ghost use Rattle.std.specs.Prelude.{◌<◌};
 use std::num::wrapping_add_u64;
 
 // The two sums, each below 65,521 after every part of a file.
-#[derive(Drop)]
+#[derive(Clone, Copy)]
 struct Sums {
     a: u64,
     b: u64,

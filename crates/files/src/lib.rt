@@ -1,5 +1,7 @@
 // Files that arguments name: their lengths, their last bytes, runs of samples at their places, and a file written
 // beside and moved into place.
+#![tactic(auto)]
+
 mod adler; // the check sum of what stands in a file
 mod beside; // a file written under another name until it is whole
 mod samples; // runs of samples at their places

@@ -1,4 +1,6 @@
 // A table of mapped samples that is lent: what each code of luma, of Cb and of Cr comes to, for jobs that look it up.
+#![tactic(auto)]
+
 ghost use Rattle.std.specs.Prelude.{◌≡◌, cond, ◌+◌, ◌-◌, ◌≤◌, length};
 ghost use Rattle.runs.specs.Runs.{painted, between};
 ghost use Rattle.runs.specs.inner.Loops.{at};
@@ -12,7 +14,7 @@ use plan::{Header, Plan};
 use rule_seven::{all_polynomials, passes};
 
 // A table is filled, or the filling is refused by a number and nothing is written.
-#[derive(Drop)]
+#[derive(Clone, Copy)]
 pub enum Filling {
     Filled,
     Refused(u8),

@@ -1,4 +1,6 @@
 // The trailer and the header: fields at fixed places, read as they stand and then tested.
+#![tactic(auto)]
+
 pub mod columns; // which column of a refused header is named
 pub mod kinds; // the kinds of the header's columns
 
@@ -10,7 +12,7 @@ use plan::Header;
 use plan::versions::is_known;
 
 // The trailer's numbers A, D0, D1, D2: the distances from its first byte back to the header and the sections.
-#[derive(Drop)]
+#[derive(Clone, Copy)]
 pub struct Trailer {
     pub a: u16,
     pub d0: u16,

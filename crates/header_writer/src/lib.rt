@@ -1,4 +1,6 @@
 // The header of the composing block, written from a plan's: fields at fixed places.
+#![tactic(auto)]
+
 ghost use Rattle.std.specs.Prelude.{◌≡◌, ◌≤◌, length};
 ghost use Rattle.pen.specs.inner.Putting.{put_at, Inked};
 ghost use Rattle.header_writer.specs.Header.{header_bytes};

@@ -1,5 +1,7 @@
 // Shows composing blocks: every field, or a picture of the mappings, or why a block is refused.
 // inspect [--rules] [--plot] BLOCK...
+#![tactic(auto)]
+
 mod counts; // the pivots and pieces in use
 mod fixed; // numbers with a fraction
 mod list; // every field, under its name

@@ -1,4 +1,6 @@
 // A picture is opened, and its row pairs are composed by jobs that may come in any order and any number of times.
+#![tactic(auto)]
+
 pub mod early; // the rules before any picture is looked at
 
 ghost use Rattle.std.specs.Prelude.{◌≡◌, length};
@@ -10,14 +12,14 @@ use marks::{base_only, clear, mark, waiting};
 use plan::Plan;
 
 // An opening hands its ticket back as the opened picture's, or is refused by a number.
-#[derive(Drop)]
+#[derive(Clone, Copy)]
 pub enum Opened {
     Open(u32),
     Refused(u8),
 }
 
 // A job is done, with the row pairs that still wait and those that are base only, or is refused by a number.
-#[derive(Drop)]
+#[derive(Clone, Copy)]
 pub enum Answer {
     Done(usize, usize),
     Refused(u8),

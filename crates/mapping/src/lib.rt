@@ -1,4 +1,6 @@
 // The mapping of base layer samples (5.4.2): a table of what every code comes to, since a picture has many more samples than there are codes.
+#![tactic(auto)]
+
 mod copies; // what the mapping reads of the pieces, copied
 mod limits; // what the numbers of a component must keep to, so that its mapping can be computed
 mod polynomial; // the polynomial of a piece
@@ -14,7 +16,7 @@ use table::table_by;
 
 // The mapped sample of each code, and whether there is one: a component with an MMR piece, or one that cannot be computed
 // with, has none, and then the table has zeros.
-#[derive(Drop)]
+#[derive(Clone, Copy)]
 pub struct Mapped {
     pub table: [u16; 1024],
     pub maps: bool,

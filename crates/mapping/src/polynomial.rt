@@ -25,7 +25,7 @@ fn sum_of(depth: u32, s: u16, row: [i64; 4]) -> i64
 }
 
 // The sum at a sample, by how much it grows to the sample after it, and by how much that grows, which is always the same.
-#[derive(Drop)]
+#[derive(Clone, Copy)]
 pub(crate) struct Course {
     pub value: i64,
     pub growth: i64,

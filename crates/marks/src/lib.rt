@@ -1,4 +1,6 @@
 // The marks of a picture, a byte for each row pair: 0 waits, 2 is base only, any other value is full.
+#![tactic(auto)]
+
 ghost use Rattle.std.specs.Prelude.{◌≡◌, ◌≤◌, length};
 ghost use Rattle.runs.specs.Runs.{painted, between, tally};
 ghost use Rattle.runs.specs.inner.Loops.{at};

@@ -15,7 +15,7 @@ use steps::{clamp, piece_of};
 use sums::{Cut, cut_out};
 
 // Of a component num_pivots_minus2, and the first and the last pivot.
-#[derive(Drop)]
+#[derive(Clone, Copy)]
 pub(crate) struct Ends {
     pub n: usize,
     pub first: u16,
@@ -23,7 +23,7 @@ pub(crate) struct Ends {
 }
 
 // What the samples of all rows have in common. The order is the highest of all pieces.
-#[derive(Drop)]
+#[derive(Clone, Copy)]
 pub(crate) struct Format {
     pub depth: u32,
     pub codes: u16, // how many codes a sample can have, 2 ^ depth
@@ -35,7 +35,7 @@ pub(crate) struct Format {
 }
 
 // Where a row's samples lie in the runs: the upper of two luma rows, and the rows of Cb and Cr.
-#[derive(Drop)]
+#[derive(Clone, Copy)]
 pub(crate) struct Place {
     pub columns: usize,
     pub upper: usize,

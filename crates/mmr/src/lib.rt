@@ -1,5 +1,7 @@
 // The MMR mapping of chroma samples (5.4.2.3.3). It is worked out sample by sample, since it goes by three of them: a table of
 // codes does not serve it. Cb and Cr are composed together, as their terms are the same.
+#![tactic(auto)]
+
 mod chroma; // row pairs of both chroma planes
 mod columns; // one row of Cb and of Cr samples
 mod luma; // luma down-sampled to a chroma position

@@ -1,4 +1,6 @@
 // Theorems on the calls of a night. Each function computes nothing: its promise is the theorem.
+#![tactic(auto)]
+
 ghost use Rattle.night.specs.Night.{StandbyNight, PlainNight};
 ghost use Rattle.night.specs.InTime.{NightInTime};
 ghost use Rattle.night.specs.EitherOrder.{EitherOrder};

@@ -1,5 +1,7 @@
 // Runs the nights of the second program (second/README.md has their format): a picture is opened, jobs come in any order and
 // again, and what is left in the memory is printed. Both runs that are lent lie between guards, which nobody may touch.
+#![tactic(auto)]
+
 use jobs::{Answer, Opened, compose_job, open_picture};
 use plan::Plan;
 use streams::guards::{GUARD, marks_kept, next_marks, samples_kept, say_touched};

@@ -1,4 +1,6 @@
 // Big-endian numbers, written at a place of a lent slice. Where a number's bytes do not all fit, nothing is written.
+#![tactic(auto)]
+
 mod fixed; // numbers with a fraction
 
 ghost use Rattle.std.specs.Prelude.{◌≡◌};

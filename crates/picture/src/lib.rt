@@ -1,23 +1,25 @@
 // A picture in memory, by its columns and row pairs alone: how many samples it has, and where the row pairs of a plane lie.
+#![tactic(auto)]
+
 ghost use Rattle.std.specs.Prelude.{◌≡◌, ◌*◌, ◌≤◌, ◌^◌};
 ghost use Rattle.picture.specs.Picture.{picture_size};
 ghost use Rattle.picture.specs.inner.Planes.{planes, lies};
 
 // The size of a picture: W is twice `columns`, and H twice `pairs`. Whatever they are, no product of them wraps.
-#[derive(Drop)]
+#[derive(Clone, Copy)]
 pub struct Extent {
     pub columns: u16, // W/2: the columns of a chroma plane
     pub pairs: u16, // H/2: the row pairs of the picture, and the rows of a chroma plane
 }
 
 // A plane of a picture: its first index in the run, and how many of its samples a row pair has.
-#[derive(Drop)]
+#[derive(Clone, Copy)]
 pub struct Plane {
     pub start: usize,
     pub row: usize,
 }
 
-#[derive(Drop)]
+#[derive(Clone, Copy)]
 pub struct Planes {
     pub y: Plane,
     pub cb: Plane,

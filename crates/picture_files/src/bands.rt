@@ -14,7 +14,7 @@ pub const BAND: usize = 98304;
 const CHROMA: u16 = (BAND / 6) as u16;
 
 // Row pairs of a picture, whose first byte in the file is `start`.
-#[derive(Drop)]
+#[derive(Clone, Copy)]
 pub struct Band {
     pub picture: usize,
     pub start: usize,
@@ -65,7 +65,7 @@ fn store_plane(fd: i32, place: usize, at: usize, n: usize, run: &[u16]) -> bool 
 }
 
 // The bytes of the file at which the band's parts of the planes begin.
-#[derive(Drop)]
+#[derive(Clone, Copy)]
 struct Places {
     y: usize,
     cb: usize,

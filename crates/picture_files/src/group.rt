@@ -7,7 +7,7 @@ use plan::Header;
 use saying::{say, say_advice, say_argument, say_number, say_refused, say_unread};
 
 // The arguments' numbers.
-#[derive(Drop)]
+#[derive(Clone, Copy)]
 pub struct Names {
     pub block: usize,
     pub base: usize,

@@ -1,5 +1,7 @@
 // Pictures in files: the four words that name them, bands of row pairs at their places, the jobs of a band, and what
 // is said of files that do not fit.
+#![tactic(auto)]
+
 pub mod bands; // bands of a picture, and their places in a file
 pub mod group; // four words, and the files that they name
 pub mod opened; // the open files of one group

@@ -14,7 +14,7 @@ use saying::{say, say_argument, say_number};
 use std::num::wrapping_add_usize;
 
 // `pictures` are those of the base, each of `size` bytes.
-#[derive(Drop)]
+#[derive(Clone, Copy)]
 pub struct Files {
     pub base: i32,
     pub enhancement: i32,

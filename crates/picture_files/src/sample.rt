@@ -32,7 +32,7 @@ fn sample(run: &[u16], i: usize) -> usize {
 
 // The samples of a component that a job names: where they begin and end in the band's run, how wide a row is, how
 // many rows of the picture stand before the run's first, and where the component begins in the run.
-#[derive(Drop)]
+#[derive(Clone, Copy)]
 struct Part {
     from: usize,
     to: usize,

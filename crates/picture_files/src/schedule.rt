@@ -6,7 +6,7 @@ ghost use Rattle.std.specs.Prelude.{◌≤◌};
 use std::num::wrapping_add_u16;
 
 // How the bands of a group are sent.
-#[derive(Drop)]
+#[derive(Clone, Copy)]
 pub enum Way {
     Whole, // by one job
     Standby,
@@ -37,7 +37,7 @@ pub fn is_said(way: Way) -> bool {
 }
 
 // Row pairs that a job names, counted from the band's first.
-#[derive(Drop)]
+#[derive(Clone, Copy)]
 pub struct Named {
     pub first: u16,
     pub count: u16,

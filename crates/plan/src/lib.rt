@@ -1,4 +1,6 @@
 // A plan: every field of a composing block, as a value that travels with each call.
+#![tactic(auto)]
+
 pub mod limits; // the largest sizes and counts, and the places of a plan's arrays
 pub mod methods; // what goes by mapping_idc
 pub mod ranges; // the ranges of the header's fields
@@ -11,7 +13,7 @@ use limits::{PIECES, PIVOTS, ROW};
 
 // The header's fields (5.3.2), as the block carries them. W is twice `columns`, and H twice `pairs`.
 #[repr(C)]
-#[derive(Drop)]
+#[derive(Clone, Copy)]
 pub struct Header {
     pub profile: u8, // ccm_profile
     pub level: u8, // ccm_level
@@ -29,7 +31,7 @@ pub struct Header {
 // One piece of a component's mapping (5.3.3): mapping_idc, its order less 1, and its row of coefficients. A polynomial's are
 // fp_poly_coef; of MMR place 0 is fp_mmr_constant, and place 7 (i - 1) + j + 1 is fp_mmr_coef[i][j].
 #[repr(C)]
-#[derive(Drop)]
+#[derive(Clone, Copy)]
 pub struct Piece {
     pub idc: u8,
     pub order: u8,
@@ -39,7 +41,7 @@ pub struct Piece {
 // How a component's residual is inverse quantized (5.3.4): nlq_offset, fp_hdr_in_max,
 // fp_linear_deadzone_slope and fp_linear_deadzone_threshold.
 #[repr(C)]
-#[derive(Drop)]
+#[derive(Clone, Copy)]
 pub struct Nlq {
     pub offset: u16,
     pub maximum: u64,
@@ -50,7 +52,7 @@ pub struct Nlq {
 // One component: num_pivots_minus2, n + 2 of pred_pivot_value, n + 2 pieces and the residual's numbers.
 // Places beyond the last pivot, the last piece or a piece's order are 0.
 #[repr(C)]
-#[derive(Drop)]
+#[derive(Clone, Copy)]
 pub struct Component {
     pub n: u8,
     pub preds: [u16; PIVOTS],
@@ -59,7 +61,7 @@ pub struct Component {
 }
 
 #[repr(C)]
-#[derive(Drop)]
+#[derive(Clone, Copy)]
 pub struct Plan {
     pub header: Header,
     pub y: Component,

@@ -2,6 +2,8 @@
 // text made to a block's bytes, a block shown as its text, and the line on which a byte's field stands.
 //
 // No range is tested here: reading the block does that, so that no range stands twice.
+#![tactic(auto)]
+
 mod lines; // the line on which a byte's field stands
 mod making; // the bytes of a block, from its text
 mod number; // a number of a text

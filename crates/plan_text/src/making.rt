@@ -10,7 +10,7 @@ use std::num::{wrapping_add_usize, wrapping_sub_usize};
 // What a text comes to: the length of the block's bytes, or the line and the reason why it is refused. `why` has the
 // words, for which the rest is kept: the field, where in the text a number stands that does not fit, and the number of
 // the component or the piece that was expected.
-#[derive(Drop)]
+#[derive(Clone, Copy)]
 pub struct Made {
     pub length: usize,
     pub line: usize,
@@ -22,7 +22,7 @@ pub struct Made {
 }
 
 // A field of the text: what it holds, the place of its number and the one after it, and what is wrong with it.
-#[derive(Drop)]
+#[derive(Clone, Copy)]
 struct Field {
     value: usize,
     from: usize,

@@ -20,7 +20,7 @@ pub(crate) const COUNT_EXPECTED: usize = 5;
 
 pub(crate) const LINE_END_EXPECTED: usize = 6;
 
-#[derive(Drop)]
+#[derive(Clone, Copy)]
 pub(crate) struct Number {
     pub(crate) negative: bool,
     pub(crate) digits: usize, // the place of the first digit

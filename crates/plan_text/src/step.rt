@@ -10,7 +10,7 @@ use plan::methods::{MMR, coefficients_used, most_idc, most_order};
 use plan::versions::{is_known, pieces_carried};
 use std::num::{wrapping_add_usize, wrapping_sub_usize};
 
-#[derive(Drop)]
+#[derive(Clone, Copy)]
 pub(crate) struct Step {
     pub(crate) kind: usize, // which field, by its number in the tables
     pub(crate) line: usize, // its line of the text, counted from 1

@@ -1,5 +1,7 @@
 // Holds the plans of the second program's vectors against rule 7 (second/README.md has their format): plans as read, with some
 // places changed, and one line of answer for each, 0 or 7. A stream that is malformed ends there.
+#![tactic(auto)]
+
 use plan::Plan;
 use rule_seven::passes;
 use streams::{BLOCK_ROOM, next_block, next_number, next_plan};

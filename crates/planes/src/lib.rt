@@ -1,5 +1,7 @@
 // Row pairs composed plane by plane: a plane's tables are made once a call, and its row pairs go by them. Nothing is asked of the
 // plan or the samples: what the tables hold for a plan that passes rule 7 is for `compose` to say.
+#![tactic(auto)]
+
 ghost use Rattle.std.specs.Prelude.{◌≡◌};
 ghost use Rattle.residual.specs.inner.Tables.{residual_table, finished_table};
 ghost use Rattle.rows.specs.inner.Rows.{looked_up_rows, added_up_rows};

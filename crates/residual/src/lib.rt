@@ -1,5 +1,7 @@
 // The residual (5.4.3.2) and the reconstruction (5.4.3.3), as tables of what every code, mapped sample and sum comes to.
 // Each is zeros where the header or the quantization cannot be computed with.
+#![tactic(auto)]
+
 mod growing; // the residuals of the codes on one side of the offset
 mod rounding; // the reconstruction of one HDR sample
 mod scaling; // the scaled distance of a code from the offset
@@ -48,7 +50,7 @@ pub fn residual_table(h: Header, q: Nlq) -> [u32; 1024]
 }
 
 // The tables of two quantizations, for whoever composes two planes together.
-#[derive(Drop)]
+#[derive(Clone, Copy)]
 pub struct Pair {
     pub first: [u32; 1024],
     pub second: [u32; 1024],

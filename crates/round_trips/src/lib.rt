@@ -1,4 +1,6 @@
 // Reading and writing undo each other. The functions compute nothing: their promises are the theorems.
+#![tactic(auto)]
+
 ghost use Rattle.round_trips.specs.RoundTrips.{WrittenIsRead, ReadIsWritten, RaisedIsRead};
 
 // A plan that was written is what reading gives back.

@@ -1,4 +1,6 @@
 // Row pairs of one plane, by tables that are made once a call.
+#![tactic(auto)]
+
 mod adding; // a stretch of samples with residual, part by part
 mod apart; // row pairs that stand apart, in step
 mod each; // row pair by row pair
@@ -11,7 +13,7 @@ use picture::{Plane, lies};
 use sums::Cut;
 
 // The row pairs from `first` up to, but not including, `last`.
-#[derive(Drop)]
+#[derive(Clone, Copy)]
 pub struct Rows {
     pub first: usize,
     pub last: usize,

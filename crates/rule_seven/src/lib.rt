@@ -1,4 +1,6 @@
 // Rule 7: whether a plan that is handed in keeps every range and has 0 in every unused place.
+#![tactic(auto)]
+
 mod places; // a component's places: those that are used keep their range, the others are 0
 mod ranges; // the ranges of a component's numbers
 

@@ -1,4 +1,6 @@
 // The rules that composing row pairs tests: 7 by the plan, 9 by the lengths, 10 by the row pairs, 11 by the samples.
+#![tactic(auto)]
+
 pub mod lengths; // rules 9 and 10, by numbers alone
 mod samples; // rule 11, by the samples of the row pairs
 

@@ -1,5 +1,7 @@
 // Runs the composing vectors of the second program (second/README.md has their format): one line of answer for each case on
 // standard input. A stream that is malformed ends there.
+#![tactic(auto)]
+
 use compose::{Composed, compose_row_pairs, picture_size};
 use plan::Plan;
 use streams::{BLOCK_ROOM, next_block, next_number, next_run, print_refusal, print_run, untouch};

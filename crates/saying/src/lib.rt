@@ -1,4 +1,6 @@
 // What the programs say on standard output, for people: words and numbers, refusals, and why a file cannot be had.
+#![tactic(auto)]
+
 mod errors; // why a file cannot be read or written
 mod field; // a field of a section: what was found there, and what is allowed
 mod fixed; // numbers with a fraction

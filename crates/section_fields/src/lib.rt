@@ -1,4 +1,6 @@
 // The fields of a section that have a rule of their own, and how each is named.
+#![tactic(auto)]
+
 pub mod kinds; // the kinds of a section's fields
 
 ghost use Rattle.std.specs.Prelude.{true, ◌≡◌, ◌+◌, ◌^◌, ◌≤◌};

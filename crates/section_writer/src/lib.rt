@@ -1,4 +1,6 @@
 // A section of the composing block, written from a component.
+#![tactic(auto)]
+
 mod carrying; // whether a version carries all pieces
 mod lengths; // how many bytes it has
 mod piece; // a piece: mapping_idc, the order, the coefficients

@@ -9,7 +9,7 @@ use fields::{Ask, Cursor, Field, Width, at_most, below};
 use plan::Header;
 use section_fields::{asked, fraction_asked, integer, signed};
 
-#[derive(Drop)]
+#[derive(Clone, Copy)]
 pub(crate) struct SignedField {
     pub(crate) value: i64,
     pub(crate) next: Cursor,

@@ -1,4 +1,6 @@
 // A section of the composing block, read to a component.
+#![tactic(auto)]
+
 mod fraction; // numbers with a fraction
 mod pieces; // the pieces: mapping_idc, the order, the coefficients
 mod section; // the whole: pivots, pieces, the residual's numbers
@@ -12,7 +14,7 @@ use section::section;
 
 // What a section comes to: 0 and its component, or the refusal's number, the byte and the field where the failure was met, and a
 // component of zeros.
-#[derive(Drop)]
+#[derive(Clone, Copy)]
 pub struct Found {
     pub number: u8,
     pub place: usize,

@@ -15,19 +15,19 @@ use plan::versions::{copy_last, pieces_carried};
 use plan::{Header, Piece};
 use section_fields::{idc, order};
 
-#[derive(Drop)]
+#[derive(Clone, Copy)]
 pub(crate) struct RowRead {
     pub(crate) list: [i64; ROW],
     pub(crate) next: Cursor,
 }
 
-#[derive(Drop)]
+#[derive(Clone, Copy)]
 pub(crate) struct PieceRead {
     pub(crate) piece: Piece,
     pub(crate) next: Cursor,
 }
 
-#[derive(Drop)]
+#[derive(Clone, Copy)]
 pub(crate) struct PiecesRead {
     pub(crate) list: [Piece; PIECES],
     pub(crate) next: Cursor,

@@ -16,19 +16,19 @@ use section_fields::kinds::{
     THRESHOLD_INT,
 };
 
-#[derive(Drop)]
+#[derive(Clone, Copy)]
 pub(crate) struct PivotsRead {
     pub(crate) list: [u16; PIVOTS],
     pub(crate) next: Cursor,
 }
 
-#[derive(Drop)]
+#[derive(Clone, Copy)]
 pub(crate) struct NlqRead {
     pub(crate) nlq: Nlq,
     pub(crate) next: Cursor,
 }
 
-#[derive(Drop)]
+#[derive(Clone, Copy)]
 pub(crate) struct SectionRead {
     pub(crate) component: Component,
     pub(crate) next: Cursor,

@@ -1,5 +1,7 @@
 // Loops over whole slices: samples looked up in a table, and the bits of six runs joined. A table has a place for every
 // index that a loop can ask for, so that nothing is asked of the samples.
+#![tactic(auto)]
+
 pub mod apart; // stretches that stand apart, in step
 
 ghost use Rattle.std.specs.Prelude.{◌≡◌, ◌+◌, ◌<◌, ◌≤◌, min, length};

@@ -1,4 +1,6 @@
 // Row jobs of both kinds, the filling of a table, and the writer, under names that a C harness can link, for measuring only.
+#![tactic(auto)]
+
 ghost use Rattle.std.specs.Prelude.{◌≡◌, length};
 ghost use Rattle.filling.specs.Filling.{filling_answer, table_after};
 ghost use Rattle.jobs.specs.Jobs.{job, table_job, job_answer, output_after, marks_after};

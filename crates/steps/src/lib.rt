@@ -1,5 +1,7 @@
 // Steps that mapping takes: the pivots (5.3.2), the piece of a sample (5.4.2.2), the clamp to the pivots and the cut of a sum
 // (5.4.2.3).
+#![tactic(auto)]
+
 ghost use Rattle.std.specs.Prelude.{◌≡◌, ◌+◌, ◌<◌, ◌≤◌, min};
 ghost use Rattle.runs.specs.inner.Loops.{at};
 ghost use Rattle.plan.specs.Ranges.{most_n};

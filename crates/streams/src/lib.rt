@@ -1,4 +1,6 @@
 // What the vector programs share: numbers, runs and plans from standard input, runs to standard output.
+#![tactic(auto)]
+
 pub mod guards; // what is lent, between guards that nobody may touch
 pub mod nights; // pictures that are composed by jobs
 pub mod numbering; // the numbers of a plan's places
@@ -17,7 +19,7 @@ use plan::Plan;
 pub const BLOCK_ROOM: usize = 8192;
 
 // A number of the input; `there` is false where the input has ended.
-#[derive(Drop)]
+#[derive(Clone, Copy)]
 pub struct Number {
     pub there: bool,
     pub value: usize,

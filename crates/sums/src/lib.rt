@@ -1,4 +1,6 @@
 // Samples added up by two tables, over whole slices: mapped samples and raised residuals, of whose sums the samples are cut out.
+#![tactic(auto)]
+
 mod entries; // what is added up for one sample
 pub mod passes; // the sums of two runs, and samples cut out of sums
 
@@ -9,7 +11,7 @@ use entries::sum;
 use passes::lower;
 
 // How a sample is cut out of a sixteenth of a sum: shifted, lowered, and at most so high.
-#[derive(Drop)]
+#[derive(Clone, Copy)]
 pub struct Cut {
     pub shift: u32,
     pub low: u16,

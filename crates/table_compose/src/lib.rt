@@ -1,4 +1,6 @@
 // The composing process over pictures by a table of mapped samples that is lent, whatever it holds.
+#![tactic(auto)]
+
 mod parts; // the planes, each by its part of the table
 
 ghost use Rattle.std.specs.Prelude.{◌≡◌, length};

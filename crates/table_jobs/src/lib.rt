@@ -1,4 +1,6 @@
 // Row jobs that look mapped samples up in a table that they are lent: a picture's plain jobs and these may come in any order.
+#![tactic(auto)]
+
 ghost use Rattle.std.specs.Prelude.{◌≡◌};
 ghost use Rattle.jobs.specs.Jobs.{table_job, job_answer, output_after, marks_after, complete};
 ghost use Rattle.table_jobs.specs.TableJobs.{says};
@@ -10,7 +12,7 @@ use plan::Plan;
 use table_compose::compose_by_table;
 
 // A job is done, with the row pairs that still wait and those that are base only, or is refused by a number.
-#[derive(Drop)]
+#[derive(Clone, Copy)]
 pub enum TableAnswer {
     Done(usize, usize),
     Refused(u8),

@@ -1,5 +1,7 @@
 // The rules of composing by a lent table: 7, 9, 13, 10 and 11. A plan of polynomials alone, which is what a table is for, is
 // looked through once: it meets neither 7 nor 13.
+#![tactic(auto)]
+
 ghost use Rattle.std.specs.Prelude.{◌≡◌, cond, not, eqb};
 ghost use Rattle.plan.specs.Rule7.{fitting};
 ghost use Rattle.plan.specs.Tables.{table_size, has_mmr};

@@ -1,6 +1,8 @@
 // Runs the cases of the second program about tables (second/README.md has their format): a table that is lent is filled, damaged
 // and shown, two pictures are composed by plain jobs and by table jobs in any order, and what is left in the memory is printed.
 // All that is lent lies between guards, which nobody may touch.
+#![tactic(auto)]
+
 use filling::{Filling, fill_table};
 use jobs::{Answer, Opened, compose_job, open_picture};
 use plan::Plan;
@@ -12,7 +14,7 @@ use streams::{BLOCK_ROOM, next_block, next_byte, next_number, print_refusal, pri
 use table_jobs::{TableAnswer, compose_table_job};
 
 // How much of each room is lent.
-#[derive(Drop)]
+#[derive(Clone, Copy)]
 struct Sizes {
     table: usize,
     samples_0: usize,

@@ -1,5 +1,7 @@
 // A block's whole life, as README.md shows it: read, open, a job, the job again after a standby, the last job,
 // complete.
+#![tactic(auto)]
+
 use jobs::{compose_job, is_complete, open_picture};
 
 fn main() {

@@ -1,1 +1,3 @@
 // Laws only: this crate has no code.
+#![tactic(auto)]
+

@@ -2,6 +2,8 @@
 // changed, into slices of every length. One line for each: the answer, `length`, and the check sum of the slice and of 16 bytes
 // on each side of it; after a block that was written, the number that reading it gives, the same for what was read, and what
 // becomes of the block as text. A stream that is malformed ends there.
+#![tactic(auto)]
+
 use plan::Plan;
 use streams::{BLOCK_ROOM, next_block, next_byte, next_number, next_plan};
 use writer::Writing;

@@ -1,4 +1,6 @@
 // The composing block, written from a plan.
+#![tactic(auto)]
+
 mod trailer; // the distances back, and the version
 
 ghost use Rattle.std.specs.Prelude.{◌≡◌, length};
@@ -12,7 +14,7 @@ use section_writer::{put_section, section_length};
 use trailer::put_trailer;
 
 // A block is written, with its length, or refused by a number.
-#[derive(Drop)]
+#[derive(Clone, Copy)]
 pub enum Writing {
     Written(usize),
     Refused(u8),
