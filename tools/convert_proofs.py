@@ -240,7 +240,7 @@ def convert(root, crate, folder, names):
         m = re.match(r"abbrev ((?:invariant|decreases)-(loop\d*)) : tie\.\S+\n(?:unfolding [^\n]*\n)?", src)
         if m:
             kind, loop = m.group(1).split("-")[0], m.group(2)
-            head = re.search(r"(?m)^" + re.escape(m.group(1)) + r"((?: " + W + r")*) =", src)
+            head = re.search(r"(?m)^" + re.escape(m.group(1)) + r"((?: [^\s=:]+)*) =", src)
             args = head.group(1).split()
             body = src[head.end():]
             new = next((ln for (lo, ln), _ in names.loops if norm(lo) == norm(loop)), loop)
@@ -262,7 +262,7 @@ def convert(root, crate, folder, names):
             body = re.sub(W, sub, body)
             invariants.append((comment, f"abbrev pub {kind}-{new} : goal.{kind}-{new}\n{kind}-{new} l ={body}"))
             continue
-        m = re.match(r"(" + W + r") : tie\.Need-(" + W + r")((?: (?:invariant|decreases)-loop\d*)*)\n((?:unfolding [^\n]*\n)?)\1((?: " + W + r")*) =", src)
+        m = re.match(r"(" + W + r") : tie\.Need-(" + W + r")((?: (?:invariant|decreases)-loop\d*)*)\n((?:unfolding [^\n]*\n)?)\1((?: [^\s=:]+)*) =", src)
         if m:
             new = names.needs.get(norm(m.group(2)))
             of_name[m.group(1)] = new
@@ -281,7 +281,7 @@ def convert(root, crate, folder, names):
             continue
         m = re.match(r"(?:abbrev )?(" + W + r") : " , src)
         roots = set(re.findall(r"\((" + W + r") : (?:tie\.|" + ("|".join(map(re.escape, local_places)) or "\0") + r")", src))
-        m2 = re.search(r"(?m)^" + (re.escape(m.group(1)) if m else "\0") + r"((?: " + W + r")+) =", src)
+        m2 = re.search(r"(?m)^" + (re.escape(m.group(1)) if m else "\0") + r"((?: [^\s=:]+)+) =", src)
         if m2 and re.search(r": (?:\(|tie\.|" + ("|".join(map(re.escape, local_places)) or "\0") + ")", src):
             roots |= set(m2.group(1).split()[:1])
         src = turn(src, roots)
