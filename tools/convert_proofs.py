@@ -108,6 +108,7 @@ class Names:
         self.needs = {}
         for old, new in entry["needs"]:
             self.needs[norm(old)] = new
+        self.asked = {dict((o, n) for o, n in entry["needs"]).get(k, k): v for k, v in entry["asked"].items()}
         self.settled = {norm(x) for x in entry["settled"]}
         self.places, self.fields = {}, {}
         new_places = entry["places_by_name"]
@@ -164,6 +165,61 @@ class Names:
                 continue
             out.append(p)
         return out
+
+
+def last_expression(body):
+    """Where the last expression begins, after every let .. in."""
+    depth, at, i = 0, 0, 0
+    while i < len(body):
+        ch = body[i]
+        if ch in "([{":
+            depth += 1
+        elif ch in ")]}":
+            depth -= 1
+        elif depth == 0 and re.match(r"\bin(?=\s)", body[i:]) and (i == 0 or body[i - 1].isspace()):
+            at = i + 2
+        i += 1
+    return at
+
+
+def parts_of(text, n):
+    """The n parts of a tuple that leans to the right, or None."""
+    text = text.strip()
+    if n == 1:
+        return [text]
+    if not text.startswith("(") or not text.endswith(")"):
+        return None
+    depth, cuts = 0, []
+    for i, ch in enumerate(text):
+        depth += (ch in "([{") - (ch in ")]}")
+        if depth == 0 and i < len(text) - 1:
+            return None
+        if depth == 1 and ch == ",":
+            cuts.append(i)
+    if len(cuts) == n - 1 and n > 2:
+        ends = [0] + cuts + [len(text) - 1]
+        return [text[a + 1:b].strip() for a, b in zip(ends, ends[1:])]
+    if not cuts:
+        return None
+    rest = parts_of(text[cuts[0] + 1:-1], n - 1) if len(cuts) == 1 else None
+    return [text[1:cuts[0]].strip()] + rest if rest else None
+
+
+def by_clauses(body, clauses):
+    """The body as a record of the clauses."""
+    if not clauses or "where" in body:
+        return body
+    at = last_expression(body)
+    expr = body[at:]
+    got = parts_of(expr, len(clauses))
+    if got:
+        new = " record { " + "; ".join(f"{n} = {e}" for n, e in zip(clauses, got)) + " }"
+    elif re.match(r"\s*(rw|search|grind|simp|elim|omega|absurd)\b", expr):
+        return body
+    else:
+        ways = [".1" * i + ".0" for i in range(len(clauses) - 1)] + [".1" * (len(clauses) - 1)]
+        new = f" let r = {expr.strip()} in record {{ " + "; ".join(f"{n} = r{w}" for n, w in zip(clauses, ways)) + " }"
+    return body[:at] + new
 
 
 def convert(root, crate, folder, names):
@@ -271,7 +327,7 @@ def convert(root, crate, folder, names):
             b = body.strip()
             if re.fullmatch(r"(search rules|omega arith|refl)", b):
                 continue
-            body = turn(body, args[:1])
+            body = by_clauses(turn(body, args[:1]), names.asked.get(new))
             rest = "".join("\n" + x for x in re.findall(r"\n(?=  where)", body))
             entry = f"pub {new} : goal.{new}\n{m.group(4)}{new} {' '.join(args)} ={body}"
             if new is None:
@@ -321,7 +377,7 @@ def convert(root, crate, folder, names):
             if hi_i - lo_i == hi - lo:
                 new = order[lo + i - lo_i]
         if new:
-            answers.append(([], f"pub {new} : goal.{new}\n{new} c =\n    {turn(body, ['c'])}"))
+            answers.append(([], f"pub {new} : goal.{new}\n{new} c =\n    {by_clauses(turn(body, ['c']), names.asked.get(new))}"))
         else:
             unplaced.append(f"inline {i}: {a}")
 

@@ -1,7 +1,0 @@
--- `start` meets its contract. Assumes nothing.
-use borrow.Author.Rules.{rules}
-use Rattle.fields.proofs.start.Statement.{statement}
-use Rattle.fields.proofs.start.Tie as tie
-
-pub start_spec : {M : Type 1} → statement M
-start_spec = tie.close (tie.spec (λ c κs. search rules) (λ c. rw c.nameless.ensures))
