@@ -1,9 +1,9 @@
 -- The arrays of a plan that a function is handed, or that a call gives, have the lengths of its type. Assumes nothing.
-use mathlib.Core.Path.{◌≡◌, sym, ◌∙◌, subst}
-use mathlib.Core.List.{List, [], ◌∷◌, map}
+use mathlib.Core.Path.{◌≡◌, sym, subst}
+use mathlib.Core.List.{List, [], ◌∷◌}
 use Prim.Native.Nat.{ℕ, zero, suc, ◌<◌}
 use native.Mathlib.Nat.{le_of_suc-le-suc, not-suc-le-zero}
-use lib.ListN.{length, get_or, length-map}
+use lib.ListN.{length, get_or}
 use mir.Val.{Val}
 use denote.Laws.{Is}
 use denote.Array.{each}
@@ -11,26 +11,23 @@ use denote.Shadow.{shadow}
 use Rattle.plan.specs.declared.Piece.{Piece}
 use Rattle.plan.specs.declared.Component.{Component}
 use Rattle.plan.specs.declared.Plan.{Plan}
-use Rattle.plan.specs.Rule7.{pivot_places, piece_places, row_places, no_piece}
+use Rattle.plan.specs.Rule7.{piece_places, row_places, no_piece}
 use Rattle.plan.specs.inner.Facts.{Arrays, Sized}
 use Rattle.plan.specs.contracts.Piece as piece
 use Rattle.plan.specs.contracts.Component as component
 use Rattle.plan.specs.contracts.Plan as plan
 
-long : {A B : Type 0} (l : List A) (f : A → B) (n : ℕ) → length (map f l) ≡ n → length l ≡ n
-long l f n e = sym (length-map l f) ∙ e
-
-rows : (l : List Piece) (us : List Val) → shadow (each _ (piece.the_field).row.own_val (map (piece.the_field).into l) us) → (p : ℕ) → p < length l → length (get_or l p no_piece).row ≡ row_places
+rows : (l : List Piece) (us : List Val) → shadow (each _ (piece.the_row).own_val l us) → (p : ℕ) → p < length l → length (get_or l p no_piece).row ≡ row_places
 rows [] us s p h = absurd (not-suc-le-zero h)
 rows (q ∷ l) [] s p h = absurd s
-rows (q ∷ l) (u ∷ us) s zero h = long q.row _ row_places s.0.1.1.1.1.0.1.0.1
+rows (q ∷ l) (u ∷ us) s zero h = s.0.1.1.1.1.0.1.0.1
 rows (q ∷ l) (u ∷ us) s (suc p) h = rows l us s.1 p (le_of_suc-le-suc h)
 
 pub arrays : (c : Component) (vs : List Val) → Is component.the_row c vs → Arrays c
 arrays c vs s =
-    let e : length c.pieces ≡ piece_places = long c.pieces _ piece_places s.1.1.1.1.0.1.0.1 in
+    let e : length c.pieces ≡ piece_places = s.1.1.1.1.0.1.0.1 in
     record {
-      preds = long c.preds _ pivot_places s.1.1.1.0.1.0.1;
+      preds = s.1.1.1.0.1.0.1;
       pieces = e;
       row = λ p h. rows c.pieces _ s.1.1.1.1.0.1.1 p (subst (λ (n : ℕ). p < n) (sym e) h);
     }

@@ -19,4 +19,4 @@ zero_test (negsuc n) f =
 
 -- a word that was read from an array holds the integer that stands there
 pub back : {z : ℤ} → mag z < 2 ^ 63 → to_z w64 (of_z w64 z) ≡ z
-back h = to_z-of_z (record { sfits = h })
+back h = to_z-of_z {w = w64} (record { sfits = h })
