@@ -23,6 +23,23 @@ def norm(s):
     return re.sub("[-_]", "", s).lower()
 
 
+def params(sig):
+    """The names of a signature's parameters."""
+    out, depth, cur = [], 0, ""
+    at = sig.find("(", sig.find("fn "))
+    for ch in sig[at:]:
+        depth += (ch in "([<") - (ch in ")]>")
+        if depth == 0 or depth == 1 and ch == ",":
+            name = cur.split(":")[0].replace("mut ", "").replace("&", "").strip()
+            out += [name] if name else []
+            cur = ""
+            if depth == 0:
+                break
+        elif not (depth == 1 and ch == "(" and not cur):
+            cur += ch
+    return out
+
+
 def contracts(root):
     """For each function name: the names of its ensures and requires clauses, from all crates."""
     found = {}
@@ -32,7 +49,7 @@ def contracts(root):
         parts = mod.split("/")
         crate = parts[0]
         inner = "::".join([x for x in "/".join(parts[2:])[:-3].split("/") if x not in ("lib", "main", "mod")])
-        for m in re.finditer(r"(?m)^ *(?:pub(?:\(crate\))? )?fn (\w+)[^{;]*?(?=^ *\{|^\{|\n *requires|\n *ensures)", text):
+        for m in re.finditer(r"(?m)^ *(?:pub(?:\(crate\))? )?fn (\w+)[^{]*?(?=^ *\{|^\{|\n *requires|\n *ensures)", text):
             name = m.group(1)
             body = text[m.end():]
             stop = re.search(r"(?m)^ *\{", body)
@@ -40,7 +57,7 @@ def contracts(root):
             ens = re.findall(r"(?m)^\s*ensures (\w*) ?\{", head)
             req = re.findall(r"(?m)^\s*requires (\w*) ?\{", head)
             path = crate + "::" + (inner + "::" if inner else "") + name
-            found[path] = (ens, req)
+            found[path] = (ens, req, params(m.group(0)))
     return found
 
 
@@ -163,6 +180,9 @@ class Names:
                         parts.pop(0)
                         parts = ["ensures"] + self.clause(self.known[callee][0], parts)
                 continue
+            t = re.fullmatch(r"t(\d+)", p)
+            if t and out[-1:] == ["args"] and 0 < int(t.group(1)) <= len(self.own[2]) and p not in self.own[2]:
+                p = self.own[2][int(t.group(1)) - 1]
             out.append(p)
         return out
 
@@ -254,7 +274,7 @@ def convert(root, crate, folder, names):
             v = m.group(1)
             new = local_places[m.group(4)] if local_places and m.group(4) else place_new(m.group(2)) or m.group(2)
             lets[v] = new
-            return f"\0let {v}\0"
+            return f"\0let {v}\0 "
 
         lets = {}
         src = pattern.sub(let, src)
@@ -436,7 +456,7 @@ def main(argv):
         if key not in data:
             print(folder, "has no names")
             continue
-        own = known.get(crate + "::" + folder.replace("/", "::"), ([], []))
+        own = known.get(crate + "::" + folder.replace("/", "::"), ([], [], []))
         convert(root, crate, folder, Names(data[key], known, own))
 
 
