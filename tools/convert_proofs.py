@@ -291,6 +291,14 @@ def convert(root, crate, folder, names):
             return word
 
         src = re.sub(W, chain, src)
+        m = re.search(r"elim c\.if-(" + W + r")\.branch \[[\s|]*inl (\w+) ↦.*\| inr (\w+) ↦", src, re.S)
+        if m:
+            cond = m.group(1)
+            src = re.sub(r"\binl (\w+) ↦", lambda mm: f"goal.then-{cond} {mm.group(1)} ↦", src)
+            src = re.sub(r"\binr (\w+) ↦", lambda mm: f"goal.else-{cond} {mm.group(1)} ↦", src)
+            for v in {m.group(2), m.group(3)}:
+                src = re.sub(r"(?<![\w.'-])" + v + r"\.0\.(taken|right)(?![\w'-])", f"{v}.if-{cond}.true", src)
+                src = re.sub(r"(?<![\w.'-])" + v + r"\.0\.left(?![\w'-])", f"{v}.if-{cond}.false", src)
         for v, new in lets.items():
             rest = src.replace(f"\0let {v}\0", "")
             if re.search(r"(?<![\w.'-])" + re.escape(v) + r"(?![\w'-])", rest) and v != "c":
@@ -345,7 +353,7 @@ def convert(root, crate, folder, names):
             args = [a for a in m.group(5).split() if a != "κs"]
             body = src[m.end():]
             b = body.strip()
-            if re.fullmatch(r"(search rules|omega arith|refl)", b):
+            if re.fullmatch(r"(search rules|omega arith|refl)", b) and not m.group(4):
                 continue
             body = by_clauses(turn(body, args[:1]), names.asked.get(new))
             rest = "".join("\n" + x for x in re.findall(r"\n(?=  where)", body))
