@@ -1,4 +1,3 @@
--- `rule_seven::places::few_fit` meets its contract: past a polynomial's few places a row is tested for 0 alone. Assumes nothing.
 use mathlib.Core.Path.{◌≡◌, refl, ap, ap₂, ◌∙◌}
 use mathlib.Core.Bool.{Bool, true, false, ◌&&◌, cond}
 use Prim.Native.Nat.{ℕ, zero, suc, ◌+◌, ◌-◌, ◌≤◌}
@@ -6,15 +5,14 @@ use native.Mathlib.Omega.{arith}
 use lib.Dec.{ltb}
 use lib.IntN.{pos}
 use lib.ListN.{get_or}
-use borrow.Author.Rules.{rules}
 use borrow.Author.Tests.{le-ltb}
 use Rattle.plan.specs.Ranges.{coefficient_fits}
 use Rattle.plan.specs.Rule7.{every, row_places, is_zero, row_fits}
 use Rattle.plan.proofs.Testing.{back}
 use Rattle.plan.proofs.Truths.{every_cong}
-use Rattle.rule_seven.proofs.places.few_fit.Statement.{statement}
-use Rattle.rule_seven.proofs.places.few_fit.Tie as tie
+use Rattle.rule_seven.proofs.places.few_fit.Goals as goal
 
+-- `rule_seven::places::few_fit` meets its contract: past a polynomial's few places a row is tested for 0 alone. Assumes nothing.
 -- three places, and those after them
 three_and : (n : ℕ) (test : ℕ → Bool) → (test 0 && (test 1 && (test 2 && every n (λ j. test (suc (suc (suc j))))))) ≡ every (suc (suc (suc n))) test
 unfolding every
@@ -47,24 +45,10 @@ module _ (used : ℕ) (few : used ≤ 3) (fits zeros : ℕ → Bool) where
   few_fit : (place 0 && (place 1 && (place 2 && every (row_places - 3) (λ j. zeros (3 + j))))) ≡ every row_places place
   few_fit = ap (λ (t : Bool). place 0 && (place 1 && (place 2 && t))) others ∙ three_and (row_places - 3) place
 
-returns : tie.Need-returns
+pub returns : goal.returns
 unfolding row_fits
 returns c =
-    let s : tie.Start = search rules in
-    let x : tie.After-coefficient-place = search rules in
-    let y : tie.After-coefficient-place2 = search rules in
-    let z : tie.After-coefficient-place3 = search rules in
-    ap₂ ◌&&◌ (rw (back x.before.coefficient-place-arg.given) at x.coefficient-place.ensures)
-    (ap₂ ◌&&◌ (rw (back y.before.coefficient-place-arg2.given) at y.coefficient-place2.ensures)
-    (ap₂ ◌&&◌ (rw (back z.before.coefficient-place-arg3.given) at z.coefficient-place3.ensures) c.rest-is-zero.ensures))
-    ∙ few_fit s.args.used s.pre.1 (λ j. coefficient_fits s.args.h s.args.idc (get_or s.args.t4 j (pos 0))) (λ j. is_zero (get_or s.args.t4 j (pos 0)))
-
-pub few_fit_spec : {M : Type 1} → statement M
-few_fit_spec =
-    tie.close
-    (tie.spec
-    (λ c. search rules) (λ c κs. search rules)
-    (λ c. search rules) (λ c κs. search rules)
-    (λ c. search rules) (λ c κs. search rules)
-    (λ c κs. search rules)
-    returns)
+    ap₂ ◌&&◌ (rw (back c.coefficient_place-arg-1.given) at c.coefficient_place-first.ensures)
+    (ap₂ ◌&&◌ (rw (back c.coefficient_place-arg-2-1.given) at c.coefficient_place-second.ensures)
+    (ap₂ ◌&&◌ (rw (back c.coefficient_place-arg-3-1.given) at c.coefficient_place-third.ensures) c.rest_is_zero.ensures))
+    ∙ few_fit c.args.used c.requires.1 (λ j. coefficient_fits c.args.h c.args.idc (get_or c.args.row j (pos 0))) (λ j. is_zero (get_or c.args.row j (pos 0)))
