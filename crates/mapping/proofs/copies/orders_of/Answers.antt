@@ -1,4 +1,3 @@
-use Prim.Native.Nat.{◌-◌}
 use native.Mathlib.Omega.{arith}
 use Rattle.mapping.proofs.Meaning.{no_orders, one_order, all_orders}
 use Rattle.mapping.proofs.copies.orders_of.Goals as goal

@@ -1,4 +1,3 @@
-use Prim.Native.Nat.{◌-◌}
 use native.Mathlib.Omega.{arith}
 use Rattle.mapping.proofs.Meaning.{no_rows, one_row, all_rows}
 use Rattle.mapping.proofs.copies.rows_of.Goals as goal

@@ -1,5 +1,4 @@
 use mathlib.Core.Path.{refl}
-use Prim.Native.Nat.{◌-◌}
 use native.Mathlib.Omega.{arith}
 use Rattle.plan.proofs.Counting.{none, more, ended}
 use Rattle.plan.proofs.Shifting.{one_shifted}

@@ -1,12 +1,11 @@
 -- `mapping::table::go_on` meets its contract: at each code the words hold the sum and its growth, whatever row they began with.
 -- Assumes nothing.
 use borrow.Author.Rules.{rules}
-use mathlib.Core.Path.{◌≡◌, ap, ap₂, ◌∙◌}
-use mathlib.Core.List.{List}
-use Prim.Native.Nat.{ℕ, ◌+◌, ◌-◌, ◌^◌, ◌≤◌}
+use mathlib.Core.Path.{ap, ap₂, ◌∙◌}
+use Prim.Native.Nat.{ℕ, ◌^◌, ◌≤◌}
 use native.Mathlib.Nat.{le_trans, le_of_eq}
 use native.Mathlib.Omega.{arith}
-use lib.IntN.{ℤ, nat_abs, ◌+ℤ◌}
+use lib.IntN.{nat_abs, ◌+ℤ◌}
 use lib.Pow.{pow_mono}
 use mir.Syntax.{w64}
 use mir.Val.{to_z, of_z}
@@ -27,7 +26,7 @@ ranges : (st : Start) (s : ℕ) → s ≤ st.args.to → RowRanges st.args.depth
 ranges st s h = let g = st.requires.0 in record { shallow = g.shallow; sample = le_trans h g.codes; coefficient = g.coefficient }
 
 -- what it began with holds the sum over the row
-begun : (c : After-course_from-course) → let a = c.args in let r = c.course_from-course.result in On a.depth a.row a.from (of_z w64 r.value) (of_z w64 r.growth) (of_z w64 r.bend)
+begun : (c : After-course_from-course) → let a = c.args in let r = c.course_from-course.result in On a.depth a.row a.from (to_z w64 (of_z w64 r.value)) (to_z w64 (of_z w64 r.growth)) (to_z w64 (of_z w64 r.bend))
 begun c =
     let st : Start = search rules in
     let r = ranges st c.args.from c.requires.0.ordered in
@@ -45,16 +44,16 @@ abbrev start : In-loop-s → Start
 start il = search rules
 
 -- and so do the words of each turn
-now_on : (il : In-loop-s) → let a = il.args in let l = il.loop-s in On a.depth a.row l.s l.value l.growth (of_z w64 il.course_from-course.result.bend)
+now_on : (il : In-loop-s) → let a = il.args in let l = il.loop-s in On a.depth a.row l.s (to_z w64 l.value-bits) (to_z w64 l.growth-bits) (to_z w64 (of_z w64 il.course_from-course.result.bend))
 now_on il = (il.loop-s.invariant.1 il.args.row (begun (first il))).1
 
 inside : (il : In-loop-s) → RowRanges il.args.depth il.loop-s.s il.args.row
 inside il = ranges (start il) il.loop-s.s (omega (arith, il.loop-s.invariant.0))
 
-value_held : (il : In-loop-s) → Holds il.loop-s.value (poly_sum il.args.depth il.loop-s.s (coef il.args.row) 2) (2 ^ 61)
+value_held : (il : In-loop-s) → Holds il.loop-s.value-bits (poly_sum il.args.depth il.loop-s.s (coef il.args.row) 2) (2 ^ 61)
 value_held il = record { is = (now_on il).value; le = sum_le (inside il) }
 
-growth-held : (il : In-loop-s) → Holds il.loop-s.growth (growth il.args.depth il.args.row il.loop-s.s) (2 ^ 61)
+growth-held : (il : In-loop-s) → Holds il.loop-s.growth-bits (growth il.args.depth il.args.row il.loop-s.s) (2 ^ 61)
 growth-held il = record { is = (now_on il).growth; le = growth_le (inside il) }
 
 bend-held : (il : In-loop-s) → Holds (of_z w64 il.course_from-course.result.bend) (bend il.args.depth il.args.row) (2 ^ 61)

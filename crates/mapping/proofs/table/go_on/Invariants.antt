@@ -2,7 +2,7 @@ use mathlib.Core.List.{List}
 use Prim.Native.Nat.{◌-◌, ◌≤◌}
 use lib.IntN.{ℤ}
 use Rattle.runs.proofs.Painting.{PaintedFrom}
-use Rattle.mapping.specs.inner.Steps.{by_row, growth, bend}
+use Rattle.mapping.specs.inner.Steps.{by_row}
 use Rattle.mapping.proofs.Held.{On}
 use Rattle.mapping.proofs.table.go_on.Given as goal
 

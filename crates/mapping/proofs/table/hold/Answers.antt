@@ -1,5 +1,4 @@
 use mathlib.Core.Path.{refl}
-use Prim.Native.Nat.{◌-◌}
 use native.Mathlib.Omega.{arith}
 use Rattle.runs.proofs.Painting.{paint_none, paint_more, paint_part}
 use Rattle.mapping.proofs.table.hold.Goals as goal

@@ -3,7 +3,7 @@ use mathlib.Core.Path.{◌≡◌}
 use Prim.Native.Nat.{◌+◌, ◌-◌, ◌≤◌, min}
 use Rattle.runs.specs.inner.Loops.{at}
 use Rattle.runs.proofs.Tables.{Filled}
-use Rattle.mapping.specs.inner.Steps.{mapped_by, table_by}
+use Rattle.mapping.specs.inner.Steps.{mapped_by}
 use Rattle.mapping.proofs.table.table_by.Given as goal
 
 abbrev pub invariant-loop-p : goal.invariant-loop-p
