@@ -137,6 +137,10 @@ class Names:
             self.fields[norm(lo)] = (ln, None)
             self.fields[norm(lo + "-test")] = (ln + "-test", None)
         self.loops = entry["loops"]
+        self.args = {}
+        for old, new in entry["args"]:
+            if old.startswith((".args .", ".ranges .")):
+                self.args[tuple(old.replace(".", " ").split())] = new.replace(".", " ").split()[1]
         self.own = own  # this function's own clauses: (ensures, requires)
 
     def clause(self, names, parts):
@@ -161,6 +165,12 @@ class Names:
             parts.pop(0)
         while parts:
             p = parts.pop(0)
+            if p in ("args", "ranges", "fits") and not out:
+                p = "ranges" if p == "fits" else p
+                out.append(p)
+                if parts:
+                    parts[0] = self.args.get((p, parts[0]), parts[0])
+                continue
             if p in ("pre", "requires") and not out:
                 out.append("requires")
                 parts = self.clause(self.own[1], parts)
@@ -170,7 +180,9 @@ class Names:
                 out.append(new)
                 if parts:
                     q = parts[0]
-                    if q in ("taken", "right"):
+                    if q in ("ok", "type-inv"):
+                        parts[0] = "type_inv"
+                    elif q in ("taken", "right"):
                         parts[0] = "true"
                     elif q == "left" and not callee:
                         parts[0] = "false"
@@ -261,12 +273,24 @@ def convert(root, crate, folder, names):
     def place_new(name):
         return names.places.get(norm(name), None)
 
-    ways = {}  # abbrev start : tie.Else1 → tie.Start, start e = search rules
+    # abbrev start : tie.Else1 → tie.Start, start e = search rules: a place has the fields of those before it
+    ways = set()
+    for _, src in bodies:
+        for m in re.finditer(r"(?m)^(?:abbrev )?(" + W + r") : [^\n]*\n\1 " + W + r" =\s+search rules$", src):
+            ways.add(m.group(1))
     imports = set()
 
     def turn(src, roots):
         """Turns one body: roots are the variables that are places."""
+        alias = {}
         roots = set(roots)
+        way = "(?:" + "|".join(map(re.escape, ways)) + ")" if ways else None
+        if way:
+            nest = lambda m: m.group(2) + "." if m.group(1).count("(") == len(m.group(3)) else m.group(0)
+            src = re.sub(r"((?:\(" + way + r" )+)(" + W + r")(\)+)\.", nest, src)
+            for m in re.finditer(r"let (" + W + r") = " + way + r" (" + W + r") in\b", src):
+                alias[m.group(1)] = m.group(2)
+                roots.add(m.group(1))
         src = re.sub(r"\((" + W + r") : " + places + r"\)", lambda m: f"({m.group(1)} : {use_place(m.group(2))})", src)
         pattern = re.compile(r"let (" + W + r") : (?:" + places + r"|(" + "|".join(map(re.escape, local_places)) + r")) = search rules in\s*" if local_places else r"let (" + W + r") : " + places + r" = search rules in\s*")
 
@@ -286,7 +310,10 @@ def convert(root, crate, folder, names):
             lead = re.match(r"[-←]*", word).group(0) if len(word) > 1 else ""
             parts = word[len(lead):].split(".")
             if parts[0] in roots and len(parts) > 1:
-                root = "c" if parts[0] in lets and "c" in roots else parts[0]
+                root = parts[0]
+                while root in alias:
+                    root = alias[root]
+                root = "c" if root in lets and "c" in roots else root
                 return lead + ".".join([root] + names.chain(parts[1:]))
             return word
 
@@ -300,12 +327,20 @@ def convert(root, crate, folder, names):
                 src = re.sub(r"(?<![\w.'-])" + v + r"\.0\.(taken|right)(?![\w'-])", f"{v}.if-{cond}.true", src)
                 src = re.sub(r"(?<![\w.'-])" + v + r"\.0\.left(?![\w'-])", f"{v}.if-{cond}.false", src)
         for v, new in lets.items():
-            rest = src.replace(f"\0let {v}\0", "")
+            rest = src.replace(f"\0let {v}\0 ", "")
             if re.search(r"(?<![\w.'-])" + re.escape(v) + r"(?![\w'-])", rest) and v != "c":
                 imports.add(new)
-                src = src.replace(f"\0let {v}\0", f"let {v} : {new} = search rules in\n    ")
+                src = src.replace(f"\0let {v}\0 ", f"let {v} : {new} = search rules in\n    ")
             else:
-                src = src.replace(f"\0let {v}\0", "")
+                src = src.replace(f"\0let {v}\0 ", "")
+        for v in reversed(alias):
+            m = re.search(r"let " + re.escape(v) + r" = [^\n]*? in\b\s*", src)
+            if m and not re.search(r"(?<![\w.'-])" + re.escape(v) + r"(?![\w'-])", src[:m.start()] + src[m.end():]):
+                src = src[:m.start()] + src[m.end():]
+        src = re.sub(r"\bnot-(?:true|false) _ (" + W + r"\.if-not-" + W + r")", r"\1", src)
+        src = re.sub(r"\.inv(?![\w'-])", ".invariant", src)
+        for m in set(re.findall(r"let (" + W + r") = \S+\.args in", src)):
+            src = re.sub(r"(?<![\w.'-])" + re.escape(m) + r"\.(" + W + r")", lambda k: m + "." + ".".join([names.args.get(("args", k.group(1).split(".")[0]), k.group(1).split(".")[0])] + k.group(1).split(".")[1:]), src)
         return src
 
     def use_place(name):
