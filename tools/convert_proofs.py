@@ -125,12 +125,14 @@ class Names:
         self.needs = {}
         for old, new in entry["needs"]:
             self.needs[norm(old)] = new
+        self.at = {new: a[0] for (old, new), a in zip(entry["needs"], entry["asked_at"])}
         self.asked = {dict((o, n) for o, n in entry["needs"]).get(k, k): v for k, v in entry["asked"].items()}
         self.settled = {norm(x) for x in entry["settled"]}
-        self.places, self.fields = {}, {}
+        self.places, self.fields, self.parent = {}, {}, {}
         new_places = entry["places_by_name"]
         for (old, parent, (of, nf), callee, *_), new in zip(entry["places"], new_places):
             self.places[norm(old)] = new
+            self.parent[norm(old)] = norm(parent) if parent else None
             if of:
                 self.fields[norm(of)] = (nf, callee)
         for (lo, ln), vars_ in entry["loops"]:
@@ -142,6 +144,14 @@ class Names:
             if old.startswith((".args .", ".ranges .")):
                 self.args[tuple(old.replace(".", " ").split())] = new.replace(".", " ").split()[1]
         self.own = own  # this function's own clauses: (ensures, requires)
+
+    def hops(self, of, to):
+        """How many steps a place lies after another, or None."""
+        n = 0
+        while of is not None and of != to:
+            of = self.parent.get(of)
+            n += 1
+        return n if of == to else None
 
     def clause(self, names, parts):
         """Positions among several clauses by name."""
@@ -260,6 +270,7 @@ def convert(root, crate, folder, names):
     uses, decls, tail = split_decls(text)
     places = r"tie\.(" + W + r")((?: (?:invariant|decreases)-loop\d*)*)"
 
+    old_of = {}
     local_places = {}  # abbrev In : Type 0 = tie.In-loop ..
     bodies = []
     for comment, lines in decls:
@@ -267,6 +278,7 @@ def convert(root, crate, folder, names):
         m = re.match(r"abbrev (" + W + r") : Type 0\n\1 =\s+" + places + r"\s*$", src)
         if m:
             local_places[m.group(1)] = names.places.get(norm(m.group(2)), m.group(2))
+            old_of[m.group(1)] = m.group(2)
             continue
         bodies.append((comment, src))
 
@@ -280,8 +292,25 @@ def convert(root, crate, folder, names):
             ways.add(m.group(1))
     imports = set()
 
-    def turn(src, roots):
-        """Turns one body: roots are the variables that are places."""
+    def turn(src, roots, at=None):
+        """Turns one body: roots are the variables that are places, and at says which place some of them are."""
+        at = dict(at or {})
+        for v, p in re.findall(r"\((" + W + r") : (?:tie\.)?(" + W + r")(?: (?:invariant|decreases)-loop\d*)*\)", src):
+            at.setdefault(v, p)
+        head = re.match(r"\s*(?:abbrev )?(" + W + r") : (?:tie\.)?(" + W + r")(?: (?:invariant|decreases)-loop\d*)* → ", src)
+        if head:
+            var = re.search(r"(?m)^\s*" + re.escape(head.group(1)) + r" (" + W + r")", src)
+            if var:
+                at.setdefault(var.group(1), head.group(2))
+        at = {v: norm(old_of.get(p, p)) for v, p in at.items()}
+
+        def path_to(to):
+            for v, p in at.items():
+                n = names.hops(p, norm(old_of.get(to, to)))
+                if n is not None:
+                    return v + ".before" * n
+            return None
+
         alias = {}
         roots = set(roots)
         way = "(?:" + "|".join(map(re.escape, ways)) + ")" if ways else None
@@ -298,10 +327,14 @@ def convert(root, crate, folder, names):
             v = m.group(1)
             new = local_places[m.group(4)] if local_places and m.group(4) else place_new(m.group(2)) or m.group(2)
             lets[v] = new
+            olds[v] = m.group(4) if local_places and m.group(4) else m.group(2)
             return f"\0let {v}\0 "
 
-        lets = {}
+        lets, olds = {}, {}
         src = pattern.sub(let, src)
+        w = re.match(r"\s*(?:abbrev )?(" + W + r") : (?:tie\.)?" + W + r"(?: (?:invariant|decreases)-loop\d*)* → (?:tie\.)?(" + W + r")(?: (?:invariant|decreases)-loop\d*)*\n(\s*)\1 (" + W + r") = search rules$", src)
+        if w and path_to(w.group(2)):
+            src = src[: src.rindex("search rules")] + path_to(w.group(2)).replace(".before", "\1")
         for v in lets:
             roots.add(v)
 
@@ -317,7 +350,7 @@ def convert(root, crate, folder, names):
                 return lead + ".".join([root] + names.chain(parts[1:]))
             return word
 
-        src = re.sub(W, chain, src)
+        src = re.sub(W, chain, src).replace("\1", ".before")
         m = re.search(r"elim c\.if-(" + W + r")\.branch \[[\s|]*inl (\w+) ↦.*\| inr (\w+) ↦", src, re.S)
         if m:
             cond = m.group(1)
@@ -330,7 +363,7 @@ def convert(root, crate, folder, names):
             rest = src.replace(f"\0let {v}\0 ", "")
             if re.search(r"(?<![\w.'-])" + re.escape(v) + r"(?![\w'-])", rest) and v != "c":
                 imports.add(new)
-                src = src.replace(f"\0let {v}\0 ", f"let {v} : {new} = search rules in\n    ")
+                src = src.replace(f"\0let {v}\0 ", f"let {v} : {new} = {path_to(olds[v]) or 'search rules'} in\n    ")
             else:
                 src = src.replace(f"\0let {v}\0 ", "")
         for v in reversed(alias):
@@ -351,6 +384,7 @@ def convert(root, crate, folder, names):
     spec = ""
     answers, invariants, helpers, unplaced = [], [], [], []
     of_name = {}
+    section, section_at = set(), {}
     for comment, src in bodies:
         first = src.split("\n")[0]
         if re.match(r"pub \S+ : \{M : Type 1\} → statement M", first):
@@ -390,7 +424,7 @@ def convert(root, crate, folder, names):
             b = body.strip()
             if re.fullmatch(r"(search rules|omega arith|refl)", b) and not m.group(4):
                 continue
-            body = by_clauses(turn(body, args[:1]), names.asked.get(new))
+            body = by_clauses(turn(body, args[:1], {args[0]: names.at.get(new, "")} if args else {}), names.asked.get(new))
             rest = "".join("\n" + x for x in re.findall(r"\n(?=  where)", body))
             entry = f"pub {new} : goal.{new}\n{m.group(4)}{new} {' '.join(args)} ={body}"
             if new is None:
@@ -399,11 +433,18 @@ def convert(root, crate, folder, names):
                 answers.append((comment, entry))
             continue
         m = re.match(r"(?:abbrev )?(" + W + r") : " , src)
+        if src[0] != " ":
+            section = set()
+        found = re.search(r"module _ (?:.* )?\((" + W + r") : (?:tie\.)?(" + W + r")", src)
+        if src[0] != " ":
+            section_at = {found.group(1): found.group(2)} if found else {}
+        section |= set(re.findall(r"module _ (?:.* )?\((" + W + r") : (?:tie\.|" + ("|".join(map(re.escape, local_places)) or "\0") + r")", src))
         roots = set(re.findall(r"\((" + W + r") : (?:tie\.|" + ("|".join(map(re.escape, local_places)) or "\0") + r")", src))
         m2 = re.search(r"(?m)^" + (re.escape(m.group(1)) if m else "\0") + r"((?: [^\s=:]+)+) =", src)
         if m2 and re.search(r": (?:\(|tie\.|" + ("|".join(map(re.escape, local_places)) or "\0") + ")", src):
             roots |= set(m2.group(1).split()[:1])
-        src = turn(src, roots)
+        roots |= section
+        src = turn(src, roots, section_at)
         src = re.sub(places, lambda mm: use_place(mm.group(1)), src)
         for n, new in local_places.items():
             if re.search(r"(?<![\w.'-])" + n + r"(?![\w'-])", src):
@@ -440,11 +481,15 @@ def convert(root, crate, folder, names):
             if hi_i - lo_i == hi - lo:
                 new = order[lo + i - lo_i]
         if new:
-            answers.append(([], f"pub {new} : goal.{new}\n{new} c =\n    {by_clauses(turn(body, ['c']), names.asked.get(new))}"))
+            answers.append(([], f"pub {new} : goal.{new}\n{new} c =\n    {by_clauses(turn(body, ['c'], {'c': names.at.get(new, '')}), names.asked.get(new))}"))
         else:
             unplaced.append(f"inline {i}: {a}")
 
     goal = f"Rattle.{crate}.proofs." + folder.replace("/", ".")
+    if any(re.search(r"[{ ]rules[,}]", u) and "Author.Rules" not in u for u in uses):
+        # the kit's set of rules beside rules of our own
+        uses = [u.replace("{rules}", "{rules as the_rules}") if "Author.Rules" in u else u for u in uses]
+        answers = [(cm, s.replace("search rules", "search the_rules")) for cm, s in answers]
     keep = [u for u in uses if not u.endswith(" as tie") and ".Statement." not in u]
     word = lambda t, w: re.search(r"(?<![\w'-])" + re.escape(w) + r"(?![\w'-])", t)
 
@@ -462,7 +507,7 @@ def convert(root, crate, folder, names):
                     op = [x for x in n.split("◌") if x]
                     if all(x in body for x in op):
                         items.append(it)
-                elif word(body, n) or n in ("arith", "rules") and n in body:
+                elif word(body, n) or n in ("arith", "rules", "the_rules") and n in body:
                     items.append(it)
             if items:
                 out.append(f"use {m.group(1)}.{{{', '.join(items)}}}")
