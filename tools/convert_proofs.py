@@ -128,6 +128,8 @@ class Names:
         self.asked = {dict((o, n) for o, n in entry["needs"]).get(k, k): v for k, v in entry["asked"].items()}
         self.settled = {norm(x) for x in entry["settled"]}
         self.places, self.fields = {}, {}
+        self.parent = {norm(old): parent and norm(parent) for old, parent, *_ in entry["places"]}
+        self.at = {need[1]: norm(at[0]) for need, at in zip(entry["needs"], entry["asked_at"])}
         new_places = entry["places_by_name"]
         for (old, parent, (of, nf), callee, *_), new in zip(entry["places"], new_places):
             self.places[norm(old)] = new
@@ -138,6 +140,13 @@ class Names:
             self.fields[norm(lo + "-test")] = (ln + "-test", None)
         self.loops = entry["loops"]
         self.own = own  # this function's own clauses: (ensures, requires)
+
+    def up(self, goal, place):
+        """How many steps before a goal a place is, or None."""
+        at, k = self.at.get(goal), 0
+        while at and at != norm(place):
+            at, k = self.parent.get(at), k + 1
+        return k if at else None
 
     def clause(self, names, parts):
         """Positions among several clauses by name."""
@@ -164,6 +173,9 @@ class Names:
             if p in ("pre", "requires") and not out:
                 out.append("requires")
                 parts = self.clause(self.own[1], parts)
+                continue
+            if p == "fits" and not out:
+                out.append("ranges")
                 continue
             if not out and norm(p) in self.fields:
                 new, callee = self.fields[norm(p)]
@@ -248,25 +260,38 @@ def convert(root, crate, folder, names):
     uses, decls, tail = split_decls(text)
     places = r"tie\.(" + W + r")((?: (?:invariant|decreases)-loop\d*)*)"
 
-    local_places = {}  # abbrev In : Type 0 = tie.In-loop ..
-    bodies = []
+    local_places, local_olds = {}, {}  # abbrev In : Type 0 = tie.In-loop ..
+    ways = []  # abbrev start : tie.Else1 → tie.Start, start e = search rules
+    bodies, kept = [], []
     for comment, lines in decls:
         src = "\n".join(lines)
+        comment, kept = kept + comment, []
         m = re.match(r"abbrev (" + W + r") : Type 0\n\1 =\s+" + places + r"\s*$", src)
         if m:
             local_places[m.group(1)] = names.places.get(norm(m.group(2)), m.group(2))
+            local_olds[m.group(1)] = m.group(2)
+            kept = comment
+            continue
+        m = re.match(r"abbrev (" + W + r") : \S.* → tie\.Start\S*(?: (?:invariant|decreases)-loop\d*)*\n\1 \S+ = search rules\s*$", src)
+        if m:
+            ways.append(m.group(1))
+            kept = comment
             continue
         bodies.append((comment, src))
 
     def place_new(name):
         return names.places.get(norm(name), None)
 
-    ways = {}  # abbrev start : tie.Else1 → tie.Start, start e = search rules
     imports = set()
 
-    def turn(src, roots):
+    def turn(src, roots, goal=None):
         """Turns one body: roots are the variables that are places."""
         roots = set(roots)
+        for way in ways:
+            src = re.sub(r"\(" + way + r" (" + W + r")\)", r"\1", src)
+            for m in re.findall(r"let (\S+) = " + way + r" (" + W + r") in\s*", src):
+                src = re.sub(r"let \S+ = " + way + r" " + W + r" in\s*", "", src, count=1)
+                src = re.sub(r"(?<![\w.'-])" + re.escape(m[0]) + r"(?![\w'-])", m[1], src)
         src = re.sub(r"\((" + W + r") : " + places + r"\)", lambda m: f"({m.group(1)} : {use_place(m.group(2))})", src)
         pattern = re.compile(r"let (" + W + r") : (?:" + places + r"|(" + "|".join(map(re.escape, local_places)) + r")) = search rules in\s*" if local_places else r"let (" + W + r") : " + places + r" = search rules in\s*")
 
@@ -274,9 +299,10 @@ def convert(root, crate, folder, names):
             v = m.group(1)
             new = local_places[m.group(4)] if local_places and m.group(4) else place_new(m.group(2)) or m.group(2)
             lets[v] = new
+            olds[v] = local_olds[m.group(4)] if local_places and m.group(4) else m.group(2)
             return f"\0let {v}\0 "
 
-        lets = {}
+        lets, olds = {}, {}
         src = pattern.sub(let, src)
         for v in lets:
             roots.add(v)
@@ -299,11 +325,14 @@ def convert(root, crate, folder, names):
             for v in {m.group(2), m.group(3)}:
                 src = re.sub(r"(?<![\w.'-])" + v + r"\.0\.(taken|right)(?![\w'-])", f"{v}.if-{cond}.true", src)
                 src = re.sub(r"(?<![\w.'-])" + v + r"\.0\.left(?![\w'-])", f"{v}.if-{cond}.false", src)
+        src = re.sub(r"not-(true|false) _ ((?:" + "|".join(map(re.escape, roots or {"c"})) + r")\.[^\s()]+\.\1)(?![\w'-])", lambda mm: mm.group(2) if re.search(r"\.if\d*-not-", mm.group(2)) else mm.group(0), src)
         for v, new in lets.items():
             rest = src.replace(f"\0let {v}\0", "")
             if re.search(r"(?<![\w.'-])" + re.escape(v) + r"(?![\w'-])", rest) and v != "c":
+                k = names.up(goal, olds[v])
                 imports.add(new)
-                src = src.replace(f"\0let {v}\0", f"let {v} : {new} = search rules in\n    ")
+                way = "c" + ".before" * k if k and "c" in roots else "search rules"
+                src = src.replace(f"\0let {v}\0", f"let {v} : {new} = {way} in\n    ")
             else:
                 src = src.replace(f"\0let {v}\0", "")
         return src
@@ -355,7 +384,7 @@ def convert(root, crate, folder, names):
             b = body.strip()
             if re.fullmatch(r"(search rules|omega arith|refl)", b) and not m.group(4):
                 continue
-            body = by_clauses(turn(body, args[:1]), names.asked.get(new))
+            body = by_clauses(turn(body, args[:1], new), names.asked.get(new))
             rest = "".join("\n" + x for x in re.findall(r"\n(?=  where)", body))
             entry = f"pub {new} : goal.{new}\n{m.group(4)}{new} {' '.join(args)} ={body}"
             if new is None:
@@ -405,7 +434,7 @@ def convert(root, crate, folder, names):
             if hi_i - lo_i == hi - lo:
                 new = order[lo + i - lo_i]
         if new:
-            answers.append(([], f"pub {new} : goal.{new}\n{new} c =\n    {by_clauses(turn(body, ['c']), names.asked.get(new))}"))
+            answers.append(([], f"pub {new} : goal.{new}\n{new} c =\n    {by_clauses(turn(body, ['c'], new), names.asked.get(new))}"))
         else:
             unplaced.append(f"inline {i}: {a}")
 
