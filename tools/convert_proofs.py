@@ -125,33 +125,28 @@ class Names:
         self.needs = {}
         for old, new in entry["needs"]:
             self.needs[norm(old)] = new
-        self.at = {new: a[0] for (old, new), a in zip(entry["needs"], entry["asked_at"])}
         self.asked = {dict((o, n) for o, n in entry["needs"]).get(k, k): v for k, v in entry["asked"].items()}
         self.settled = {norm(x) for x in entry["settled"]}
-        self.places, self.fields, self.parent = {}, {}, {}
+        self.places, self.fields = {}, {}
+        self.parent = {norm(old): parent and norm(parent) for old, parent, *_ in entry["places"]}
+        self.at = {need[1]: norm(at[0]) for need, at in zip(entry["needs"], entry["asked_at"])}
         new_places = entry["places_by_name"]
         for (old, parent, (of, nf), callee, *_), new in zip(entry["places"], new_places):
             self.places[norm(old)] = new
-            self.parent[norm(old)] = norm(parent) if parent else None
             if of:
                 self.fields[norm(of)] = (nf, callee)
         for (lo, ln), vars_ in entry["loops"]:
             self.fields[norm(lo)] = (ln, None)
             self.fields[norm(lo + "-test")] = (ln + "-test", None)
         self.loops = entry["loops"]
-        self.args = {}
-        for old, new in entry["args"]:
-            if old.startswith((".args .", ".ranges .")):
-                self.args[tuple(old.replace(".", " ").split())] = new.replace(".", " ").split()[1]
         self.own = own  # this function's own clauses: (ensures, requires)
 
-    def hops(self, of, to):
-        """How many steps a place lies after another, or None."""
-        n = 0
-        while of is not None and of != to:
-            of = self.parent.get(of)
-            n += 1
-        return n if of == to else None
+    def up(self, goal, place):
+        """How many steps before a goal a place is, or None."""
+        at, k = self.at.get(goal), 0
+        while at and at != norm(place):
+            at, k = self.parent.get(at), k + 1
+        return k if at else None
 
     def clause(self, names, parts):
         """Positions among several clauses by name."""
@@ -175,24 +170,19 @@ class Names:
             parts.pop(0)
         while parts:
             p = parts.pop(0)
-            if p in ("args", "ranges", "fits") and not out:
-                p = "ranges" if p == "fits" else p
-                out.append(p)
-                if parts:
-                    parts[0] = self.args.get((p, parts[0]), parts[0])
-                continue
             if p in ("pre", "requires") and not out:
                 out.append("requires")
                 parts = self.clause(self.own[1], parts)
+                continue
+            if p == "fits" and not out:
+                out.append("ranges")
                 continue
             if not out and norm(p) in self.fields:
                 new, callee = self.fields[norm(p)]
                 out.append(new)
                 if parts:
                     q = parts[0]
-                    if q in ("ok", "type-inv"):
-                        parts[0] = "type_inv"
-                    elif q in ("taken", "right"):
+                    if q in ("taken", "right"):
                         parts[0] = "true"
                     elif q == "left" and not callee:
                         parts[0] = "false"
@@ -270,56 +260,38 @@ def convert(root, crate, folder, names):
     uses, decls, tail = split_decls(text)
     places = r"tie\.(" + W + r")((?: (?:invariant|decreases)-loop\d*)*)"
 
-    old_of = {}
-    local_places = {}  # abbrev In : Type 0 = tie.In-loop ..
-    bodies = []
+    local_places, local_olds = {}, {}  # abbrev In : Type 0 = tie.In-loop ..
+    ways = []  # abbrev start : tie.Else1 → tie.Start, start e = search rules
+    bodies, kept = [], []
     for comment, lines in decls:
         src = "\n".join(lines)
+        comment, kept = kept + comment, []
         m = re.match(r"abbrev (" + W + r") : Type 0\n\1 =\s+" + places + r"\s*$", src)
         if m:
             local_places[m.group(1)] = names.places.get(norm(m.group(2)), m.group(2))
-            old_of[m.group(1)] = m.group(2)
+            local_olds[m.group(1)] = m.group(2)
+            kept = comment
+            continue
+        m = re.match(r"abbrev (" + W + r") : \S.* → tie\.Start\S*(?: (?:invariant|decreases)-loop\d*)*\n\1 \S+ = search rules\s*$", src)
+        if m:
+            ways.append(m.group(1))
+            kept = comment
             continue
         bodies.append((comment, src))
 
     def place_new(name):
         return names.places.get(norm(name), None)
 
-    # abbrev start : tie.Else1 → tie.Start, start e = search rules: a place has the fields of those before it
-    ways = set()
-    for _, src in bodies:
-        for m in re.finditer(r"(?m)^(?:abbrev )?(" + W + r") : [^\n]*\n\1 " + W + r" =\s+search rules$", src):
-            ways.add(m.group(1))
     imports = set()
 
-    def turn(src, roots, at=None):
-        """Turns one body: roots are the variables that are places, and at says which place some of them are."""
-        at = dict(at or {})
-        for v, p in re.findall(r"\((" + W + r") : (?:tie\.)?(" + W + r")(?: (?:invariant|decreases)-loop\d*)*\)", src):
-            at.setdefault(v, p)
-        head = re.match(r"\s*(?:abbrev )?(" + W + r") : (?:tie\.)?(" + W + r")(?: (?:invariant|decreases)-loop\d*)* → ", src)
-        if head:
-            var = re.search(r"(?m)^\s*" + re.escape(head.group(1)) + r" (" + W + r")", src)
-            if var:
-                at.setdefault(var.group(1), head.group(2))
-        at = {v: norm(old_of.get(p, p)) for v, p in at.items()}
-
-        def path_to(to):
-            for v, p in at.items():
-                n = names.hops(p, norm(old_of.get(to, to)))
-                if n is not None:
-                    return v + ".before" * n
-            return None
-
-        alias = {}
+    def turn(src, roots, goal=None):
+        """Turns one body: roots are the variables that are places."""
         roots = set(roots)
-        way = "(?:" + "|".join(map(re.escape, ways)) + ")" if ways else None
-        if way:
-            nest = lambda m: m.group(2) + "." if m.group(1).count("(") == len(m.group(3)) else m.group(0)
-            src = re.sub(r"((?:\(" + way + r" )+)(" + W + r")(\)+)\.", nest, src)
-            for m in re.finditer(r"let (" + W + r") = " + way + r" (" + W + r") in\b", src):
-                alias[m.group(1)] = m.group(2)
-                roots.add(m.group(1))
+        for way in ways:
+            src = re.sub(r"\(" + way + r" (" + W + r")\)", r"\1", src)
+            for m in re.findall(r"let (\S+) = " + way + r" (" + W + r") in\s*", src):
+                src = re.sub(r"let \S+ = " + way + r" " + W + r" in\s*", "", src, count=1)
+                src = re.sub(r"(?<![\w.'-])" + re.escape(m[0]) + r"(?![\w'-])", m[1], src)
         src = re.sub(r"\((" + W + r") : " + places + r"\)", lambda m: f"({m.group(1)} : {use_place(m.group(2))})", src)
         pattern = re.compile(r"let (" + W + r") : (?:" + places + r"|(" + "|".join(map(re.escape, local_places)) + r")) = search rules in\s*" if local_places else r"let (" + W + r") : " + places + r" = search rules in\s*")
 
@@ -327,14 +299,11 @@ def convert(root, crate, folder, names):
             v = m.group(1)
             new = local_places[m.group(4)] if local_places and m.group(4) else place_new(m.group(2)) or m.group(2)
             lets[v] = new
-            olds[v] = m.group(4) if local_places and m.group(4) else m.group(2)
+            olds[v] = local_olds[m.group(4)] if local_places and m.group(4) else m.group(2)
             return f"\0let {v}\0 "
 
         lets, olds = {}, {}
         src = pattern.sub(let, src)
-        w = re.match(r"\s*(?:abbrev )?(" + W + r") : (?:tie\.)?" + W + r"(?: (?:invariant|decreases)-loop\d*)* → (?:tie\.)?(" + W + r")(?: (?:invariant|decreases)-loop\d*)*\n(\s*)\1 (" + W + r") = search rules$", src)
-        if w and path_to(w.group(2)):
-            src = src[: src.rindex("search rules")] + path_to(w.group(2)).replace(".before", "\1")
         for v in lets:
             roots.add(v)
 
@@ -343,14 +312,11 @@ def convert(root, crate, folder, names):
             lead = re.match(r"[-←]*", word).group(0) if len(word) > 1 else ""
             parts = word[len(lead):].split(".")
             if parts[0] in roots and len(parts) > 1:
-                root = parts[0]
-                while root in alias:
-                    root = alias[root]
-                root = "c" if root in lets and "c" in roots else root
+                root = "c" if parts[0] in lets and "c" in roots else parts[0]
                 return lead + ".".join([root] + names.chain(parts[1:]))
             return word
 
-        src = re.sub(W, chain, src).replace("\1", ".before")
+        src = re.sub(W, chain, src)
         m = re.search(r"elim c\.if-(" + W + r")\.branch \[[\s|]*inl (\w+) ↦.*\| inr (\w+) ↦", src, re.S)
         if m:
             cond = m.group(1)
@@ -359,21 +325,16 @@ def convert(root, crate, folder, names):
             for v in {m.group(2), m.group(3)}:
                 src = re.sub(r"(?<![\w.'-])" + v + r"\.0\.(taken|right)(?![\w'-])", f"{v}.if-{cond}.true", src)
                 src = re.sub(r"(?<![\w.'-])" + v + r"\.0\.left(?![\w'-])", f"{v}.if-{cond}.false", src)
+        src = re.sub(r"not-(true|false) _ ((?:" + "|".join(map(re.escape, roots or {"c"})) + r")\.[^\s()]+\.\1)(?![\w'-])", lambda mm: mm.group(2) if re.search(r"\.if\d*-not-", mm.group(2)) else mm.group(0), src)
         for v, new in lets.items():
-            rest = src.replace(f"\0let {v}\0 ", "")
+            rest = src.replace(f"\0let {v}\0", "")
             if re.search(r"(?<![\w.'-])" + re.escape(v) + r"(?![\w'-])", rest) and v != "c":
+                k = names.up(goal, olds[v])
                 imports.add(new)
-                src = src.replace(f"\0let {v}\0 ", f"let {v} : {new} = {path_to(olds[v]) or 'search rules'} in\n    ")
+                way = "c" + ".before" * k if k and "c" in roots else "search rules"
+                src = src.replace(f"\0let {v}\0", f"let {v} : {new} = {way} in\n    ")
             else:
-                src = src.replace(f"\0let {v}\0 ", "")
-        for v in reversed(alias):
-            m = re.search(r"let " + re.escape(v) + r" = [^\n]*? in\b\s*", src)
-            if m and not re.search(r"(?<![\w.'-])" + re.escape(v) + r"(?![\w'-])", src[:m.start()] + src[m.end():]):
-                src = src[:m.start()] + src[m.end():]
-        src = re.sub(r"\bnot-(?:true|false) _ (" + W + r"\.if-not-" + W + r")", r"\1", src)
-        src = re.sub(r"\.inv(?![\w'-])", ".invariant", src)
-        for m in set(re.findall(r"let (" + W + r") = \S+\.args in", src)):
-            src = re.sub(r"(?<![\w.'-])" + re.escape(m) + r"\.(" + W + r")", lambda k: m + "." + ".".join([names.args.get(("args", k.group(1).split(".")[0]), k.group(1).split(".")[0])] + k.group(1).split(".")[1:]), src)
+                src = src.replace(f"\0let {v}\0", "")
         return src
 
     def use_place(name):
@@ -384,7 +345,6 @@ def convert(root, crate, folder, names):
     spec = ""
     answers, invariants, helpers, unplaced = [], [], [], []
     of_name = {}
-    section, section_at = set(), {}
     for comment, src in bodies:
         first = src.split("\n")[0]
         if re.match(r"pub \S+ : \{M : Type 1\} → statement M", first):
@@ -424,7 +384,7 @@ def convert(root, crate, folder, names):
             b = body.strip()
             if re.fullmatch(r"(search rules|omega arith|refl)", b) and not m.group(4):
                 continue
-            body = by_clauses(turn(body, args[:1], {args[0]: names.at.get(new, "")} if args else {}), names.asked.get(new))
+            body = by_clauses(turn(body, args[:1], new), names.asked.get(new))
             rest = "".join("\n" + x for x in re.findall(r"\n(?=  where)", body))
             entry = f"pub {new} : goal.{new}\n{m.group(4)}{new} {' '.join(args)} ={body}"
             if new is None:
@@ -433,18 +393,11 @@ def convert(root, crate, folder, names):
                 answers.append((comment, entry))
             continue
         m = re.match(r"(?:abbrev )?(" + W + r") : " , src)
-        if src[0] != " ":
-            section = set()
-        found = re.search(r"module _ (?:.* )?\((" + W + r") : (?:tie\.)?(" + W + r")", src)
-        if src[0] != " ":
-            section_at = {found.group(1): found.group(2)} if found else {}
-        section |= set(re.findall(r"module _ (?:.* )?\((" + W + r") : (?:tie\.|" + ("|".join(map(re.escape, local_places)) or "\0") + r")", src))
         roots = set(re.findall(r"\((" + W + r") : (?:tie\.|" + ("|".join(map(re.escape, local_places)) or "\0") + r")", src))
         m2 = re.search(r"(?m)^" + (re.escape(m.group(1)) if m else "\0") + r"((?: [^\s=:]+)+) =", src)
         if m2 and re.search(r": (?:\(|tie\.|" + ("|".join(map(re.escape, local_places)) or "\0") + ")", src):
             roots |= set(m2.group(1).split()[:1])
-        roots |= section
-        src = turn(src, roots, section_at)
+        src = turn(src, roots)
         src = re.sub(places, lambda mm: use_place(mm.group(1)), src)
         for n, new in local_places.items():
             if re.search(r"(?<![\w.'-])" + n + r"(?![\w'-])", src):
@@ -481,15 +434,11 @@ def convert(root, crate, folder, names):
             if hi_i - lo_i == hi - lo:
                 new = order[lo + i - lo_i]
         if new:
-            answers.append(([], f"pub {new} : goal.{new}\n{new} c =\n    {by_clauses(turn(body, ['c'], {'c': names.at.get(new, '')}), names.asked.get(new))}"))
+            answers.append(([], f"pub {new} : goal.{new}\n{new} c =\n    {by_clauses(turn(body, ['c'], new), names.asked.get(new))}"))
         else:
             unplaced.append(f"inline {i}: {a}")
 
     goal = f"Rattle.{crate}.proofs." + folder.replace("/", ".")
-    if any(re.search(r"[{ ]rules[,}]", u) and "Author.Rules" not in u for u in uses):
-        # the kit's set of rules beside rules of our own
-        uses = [u.replace("{rules}", "{rules as the_rules}") if "Author.Rules" in u else u for u in uses]
-        answers = [(cm, s.replace("search rules", "search the_rules")) for cm, s in answers]
     keep = [u for u in uses if not u.endswith(" as tie") and ".Statement." not in u]
     word = lambda t, w: re.search(r"(?<![\w'-])" + re.escape(w) + r"(?![\w'-])", t)
 
@@ -507,7 +456,7 @@ def convert(root, crate, folder, names):
                     op = [x for x in n.split("◌") if x]
                     if all(x in body for x in op):
                         items.append(it)
-                elif word(body, n) or n in ("arith", "rules", "the_rules") and n in body:
+                elif word(body, n) or n in ("arith", "rules") and n in body:
                     items.append(it)
             if items:
                 out.append(f"use {m.group(1)}.{{{', '.join(items)}}}")
