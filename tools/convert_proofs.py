@@ -148,6 +148,12 @@ class Names:
             at, k = self.parent.get(at), k + 1
         return k if at else None
 
+    def between(self, start, place):
+        at, k = norm(start), 0
+        while at and at != norm(place):
+            at, k = self.parent.get(at), k + 1
+        return k if at else 0
+
     def clause(self, names, parts):
         """Positions among several clauses by name."""
         if len(names) < 2:
@@ -261,7 +267,7 @@ def convert(root, crate, folder, names):
     places = r"tie\.(" + W + r")((?: (?:invariant|decreases)-loop\d*)*)"
 
     local_places, local_olds = {}, {}  # abbrev In : Type 0 = tie.In-loop ..
-    ways = []  # abbrev start : tie.Else1 → tie.Start, start e = search rules
+    ways = {}  # abbrev start : tie.Else1 → tie.Start, start e = search rules: how many steps before
     bodies, kept = [], []
     for comment, lines in decls:
         src = "\n".join(lines)
@@ -272,9 +278,10 @@ def convert(root, crate, folder, names):
             local_olds[m.group(1)] = m.group(2)
             kept = comment
             continue
-        m = re.match(r"abbrev (" + W + r") : \S.* → tie\.Start\S*(?: (?:invariant|decreases)-loop\d*)*\n\1 \S+ = search rules\s*$", src)
-        if m:
-            ways.append(m.group(1))
+        m = re.match(r"abbrev (" + W + r") : (\S+)((?: (?:invariant|decreases)-loop\d*)*) → (\S+)((?: (?:invariant|decreases)-loop\d*)*)\n\1 \S+ = [^\n]*$", src)
+        if m and all(x.startswith("tie.") or x in local_olds for x in (m.group(2), m.group(4))):
+            old = [local_olds.get(x, x.replace("tie.", "")) for x in (m.group(2), m.group(4))]
+            ways[m.group(1)] = names.between(old[0], old[1])
             kept = comment
             continue
         bodies.append((comment, src))
@@ -287,11 +294,21 @@ def convert(root, crate, folder, names):
     def turn(src, roots, goal=None):
         """Turns one body: roots are the variables that are places."""
         roots = set(roots)
-        for way in ways:
-            src = re.sub(r"\(" + way + r" (" + W + r")\)", r"\1", src)
-            for m in re.findall(r"let (\S+) = " + way + r" (" + W + r") in\s*", src):
-                src = re.sub(r"let \S+ = " + way + r" " + W + r" in\s*", "", src, count=1)
-                src = re.sub(r"(?<![\w.'-])" + re.escape(m[0]) + r"(?![\w'-])", m[1], src)
+        one = "(" + "|".join(map(re.escape, ways)) + r") (" + W + r")"
+        while ways:
+            m = re.search(r"let (\S+) = " + one + r" in\s*", src) or re.search(r"\(" + one + r"\)", src)
+            if not m:
+                break
+            new = f"{m.group(m.lastindex)}⁀{ways[m.group(m.lastindex - 1)]}⁀"
+            rest = src[m.end():]
+            if m.group(0).startswith("let"):
+                src = src[: m.start()] + re.sub(r"(?<![\w.'-])" + re.escape(m.group(1)) + r"(?![\w'-])", new, rest)
+            else:
+                src = src[: m.start()] + new + rest
+            while re.search(r"⁀\d+⁀⁀", src):
+                src = re.sub(r"⁀(\d+)⁀⁀(\d+)⁀", lambda mm: f"⁀{int(mm.group(1)) + int(mm.group(2))}⁀", src)
+        src = re.sub(r"⁀\d+⁀\.", ".", src)
+        src = re.sub(r"⁀(\d+)⁀", lambda mm: ".⁀" * int(mm.group(1)), src)
         src = re.sub(r"\((" + W + r") : " + places + r"\)", lambda m: f"({m.group(1)} : {use_place(m.group(2))})", src)
         pattern = re.compile(r"let (" + W + r") : (?:" + places + r"|(" + "|".join(map(re.escape, local_places)) + r")) = search rules in\s*" if local_places else r"let (" + W + r") : " + places + r" = search rules in\s*")
 
@@ -311,6 +328,11 @@ def convert(root, crate, folder, names):
             word = m.group(0)
             lead = re.match(r"[-←]*", word).group(0) if len(word) > 1 else ""
             parts = word[len(lead):].split(".")
+            if parts[0] in roots and parts[1:] and set(parts[1:]) == {"⁀"}:
+                if parts[0] in lets and "c" in roots:
+                    far = len(parts) - 1 + (names.up(goal, olds[parts[0]]) or 0)
+                    return "c" + ".before" * far
+                return ".".join([parts[0]] + ["before"] * (len(parts) - 1))
             if parts[0] in roots and len(parts) > 1:
                 root = "c" if parts[0] in lets and "c" in roots else parts[0]
                 return lead + ".".join([root] + names.chain(parts[1:]))
@@ -331,7 +353,7 @@ def convert(root, crate, folder, names):
             if re.search(r"(?<![\w.'-])" + re.escape(v) + r"(?![\w'-])", rest) and v != "c":
                 k = names.up(goal, olds[v])
                 imports.add(new)
-                way = "c" + ".before" * k if k and "c" in roots else "search rules"
+                way = "c" + ".before" * k if k is not None and "c" in roots else "search rules"
                 src = src.replace(f"\0let {v}\0", f"let {v} : {new} = {way} in\n    ")
             else:
                 src = src.replace(f"\0let {v}\0", "")
@@ -372,7 +394,16 @@ def convert(root, crate, folder, names):
                     ps[0] = table[ps[0]]
                 return lead + ".".join(ps)
 
-            body = re.sub(W, sub, body)
+            for b in re.findall(r"λ (" + W + r")\. ", body):
+                if b in table:
+                    at = body.index(f"λ {b}. ")
+                    depth, end = 0, at
+                    while end < len(body) and depth >= 0:
+                        depth += (body[end] in "([{") - (body[end] in ")]}")
+                        end += 1
+                    inner = re.sub(r"(?<![\w.'-])" + re.escape(b) + r"(?![\w'-])", b + "⁀", body[at:end])
+                    body = body[:at] + inner + body[end:]
+            body = re.sub(W, sub, body).replace("⁀", "")
             invariants.append((comment, f"abbrev pub {kind}-{new} : goal.{kind}-{new}\n{kind}-{new} l ={body}"))
             continue
         m = re.match(r"(" + W + r") : tie\.Need-(" + W + r")((?: (?:invariant|decreases)-loop\d*)*)\n((?:unfolding [^\n]*\n)?)\1((?: [^\s=:]+)*) =", src)
