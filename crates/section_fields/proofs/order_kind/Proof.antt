@@ -1,8 +1,0 @@
--- `order_kind` meets its contract. Assumes nothing.
-use mathlib.Core.Path.{refl}
-use borrow.Author.Tests.{eq-eqb, ne_eqb}
-use Rattle.section_fields.proofs.order_kind.Statement.{statement}
-use Rattle.section_fields.proofs.order_kind.Tie as tie
-
-pub order_kind_spec : {M : Type 1} → statement M
-order_kind_spec = tie.close (tie.spec (λ c. rw (eq-eqb _ 1 c.if1.true) refl) (λ c. rw (ne_eqb _ 1 c.if1.false) refl))
