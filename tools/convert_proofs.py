@@ -23,6 +23,23 @@ def norm(s):
     return re.sub("[-_]", "", s).lower()
 
 
+def params(sig):
+    """The names of a signature's parameters."""
+    out, depth, cur = [], 0, ""
+    at = sig.find("(", sig.find("fn "))
+    for ch in sig[at:]:
+        depth += (ch in "([<") - (ch in ")]>")
+        if depth == 0 or depth == 1 and ch == ",":
+            name = cur.split(":")[0].replace("mut ", "").replace("&", "").strip()
+            out += [name] if name else []
+            cur = ""
+            if depth == 0:
+                break
+        elif not (depth == 1 and ch == "(" and not cur):
+            cur += ch
+    return out
+
+
 def contracts(root):
     """For each function name: the names of its ensures and requires clauses, from all crates."""
     found = {}
@@ -32,7 +49,7 @@ def contracts(root):
         parts = mod.split("/")
         crate = parts[0]
         inner = "::".join([x for x in "/".join(parts[2:])[:-3].split("/") if x not in ("lib", "main", "mod")])
-        for m in re.finditer(r"(?m)^ *(?:pub(?:\(crate\))? )?fn (\w+)[^{;]*?(?=^ *\{|^\{|\n *requires|\n *ensures)", text):
+        for m in re.finditer(r"(?m)^ *(?:pub(?:\(crate\))? )?fn (\w+)[^{]*?(?=^ *\{|^\{|\n *requires|\n *ensures)", text):
             name = m.group(1)
             body = text[m.end():]
             stop = re.search(r"(?m)^ *\{", body)
@@ -40,7 +57,7 @@ def contracts(root):
             ens = re.findall(r"(?m)^\s*ensures (\w*) ?\{", head)
             req = re.findall(r"(?m)^\s*requires (\w*) ?\{", head)
             path = crate + "::" + (inner + "::" if inner else "") + name
-            found[path] = (ens, req)
+            found[path] = (ens, req, params(m.group(0)))
     return found
 
 
@@ -111,6 +128,8 @@ class Names:
         self.asked = {dict((o, n) for o, n in entry["needs"]).get(k, k): v for k, v in entry["asked"].items()}
         self.settled = {norm(x) for x in entry["settled"]}
         self.places, self.fields = {}, {}
+        self.parent = {norm(old): parent and norm(parent) for old, parent, *_ in entry["places"]}
+        self.at = {need[1]: norm(at[0]) for need, at in zip(entry["needs"], entry["asked_at"])}
         new_places = entry["places_by_name"]
         for (old, parent, (of, nf), callee, *_), new in zip(entry["places"], new_places):
             self.places[norm(old)] = new
@@ -121,6 +140,19 @@ class Names:
             self.fields[norm(lo + "-test")] = (ln + "-test", None)
         self.loops = entry["loops"]
         self.own = own  # this function's own clauses: (ensures, requires)
+
+    def up(self, goal, place):
+        """How many steps before a goal a place is, or None."""
+        at, k = self.at.get(goal), 0
+        while at and at != norm(place):
+            at, k = self.parent.get(at), k + 1
+        return k if at else None
+
+    def between(self, start, place):
+        at, k = norm(start), 0
+        while at and at != norm(place):
+            at, k = self.parent.get(at), k + 1
+        return k if at else 0
 
     def clause(self, names, parts):
         """Positions among several clauses by name."""
@@ -148,6 +180,9 @@ class Names:
                 out.append("requires")
                 parts = self.clause(self.own[1], parts)
                 continue
+            if p == "fits" and not out:
+                out.append("ranges")
+                continue
             if not out and norm(p) in self.fields:
                 new, callee = self.fields[norm(p)]
                 out.append(new)
@@ -163,6 +198,9 @@ class Names:
                         parts.pop(0)
                         parts = ["ensures"] + self.clause(self.known[callee][0], parts)
                 continue
+            t = re.fullmatch(r"t(\d+)", p)
+            if t and out[-1:] == ["args"] and 0 < int(t.group(1)) <= len(self.own[2]) and p not in self.own[2]:
+                p = self.own[2][int(t.group(1)) - 1]
             out.append(p)
         return out
 
@@ -228,25 +266,49 @@ def convert(root, crate, folder, names):
     uses, decls, tail = split_decls(text)
     places = r"tie\.(" + W + r")((?: (?:invariant|decreases)-loop\d*)*)"
 
-    local_places = {}  # abbrev In : Type 0 = tie.In-loop ..
-    bodies = []
+    local_places, local_olds = {}, {}  # abbrev In : Type 0 = tie.In-loop ..
+    ways = {}  # abbrev start : tie.Else1 → tie.Start, start e = search rules: how many steps before
+    bodies, kept = [], []
     for comment, lines in decls:
         src = "\n".join(lines)
+        comment, kept = kept + comment, []
         m = re.match(r"abbrev (" + W + r") : Type 0\n\1 =\s+" + places + r"\s*$", src)
         if m:
             local_places[m.group(1)] = names.places.get(norm(m.group(2)), m.group(2))
+            local_olds[m.group(1)] = m.group(2)
+            kept = comment
+            continue
+        m = re.match(r"abbrev (" + W + r") : (\S+)((?: (?:invariant|decreases)-loop\d*)*) → (\S+)((?: (?:invariant|decreases)-loop\d*)*)\n\1 \S+ = [^\n]*$", src)
+        if m and all(x.startswith("tie.") or x in local_olds for x in (m.group(2), m.group(4))):
+            old = [local_olds.get(x, x.replace("tie.", "")) for x in (m.group(2), m.group(4))]
+            ways[m.group(1)] = names.between(old[0], old[1])
+            kept = comment
             continue
         bodies.append((comment, src))
 
     def place_new(name):
         return names.places.get(norm(name), None)
 
-    ways = {}  # abbrev start : tie.Else1 → tie.Start, start e = search rules
     imports = set()
 
-    def turn(src, roots):
+    def turn(src, roots, goal=None):
         """Turns one body: roots are the variables that are places."""
         roots = set(roots)
+        one = "(" + "|".join(map(re.escape, ways)) + r") (" + W + r")"
+        while ways:
+            m = re.search(r"let (\S+) = " + one + r" in\s*", src) or re.search(r"\(" + one + r"\)", src)
+            if not m:
+                break
+            new = f"{m.group(m.lastindex)}⁀{ways[m.group(m.lastindex - 1)]}⁀"
+            rest = src[m.end():]
+            if m.group(0).startswith("let"):
+                src = src[: m.start()] + re.sub(r"(?<![\w.'-])" + re.escape(m.group(1)) + r"(?![\w'-])", new, rest)
+            else:
+                src = src[: m.start()] + new + rest
+            while re.search(r"⁀\d+⁀⁀", src):
+                src = re.sub(r"⁀(\d+)⁀⁀(\d+)⁀", lambda mm: f"⁀{int(mm.group(1)) + int(mm.group(2))}⁀", src)
+        src = re.sub(r"⁀\d+⁀\.", ".", src)
+        src = re.sub(r"⁀(\d+)⁀", lambda mm: ".⁀" * int(mm.group(1)), src)
         src = re.sub(r"\((" + W + r") : " + places + r"\)", lambda m: f"({m.group(1)} : {use_place(m.group(2))})", src)
         pattern = re.compile(r"let (" + W + r") : (?:" + places + r"|(" + "|".join(map(re.escape, local_places)) + r")) = search rules in\s*" if local_places else r"let (" + W + r") : " + places + r" = search rules in\s*")
 
@@ -254,9 +316,10 @@ def convert(root, crate, folder, names):
             v = m.group(1)
             new = local_places[m.group(4)] if local_places and m.group(4) else place_new(m.group(2)) or m.group(2)
             lets[v] = new
-            return f"\0let {v}\0"
+            olds[v] = local_olds[m.group(4)] if local_places and m.group(4) else m.group(2)
+            return f"\0let {v}\0 "
 
-        lets = {}
+        lets, olds = {}, {}
         src = pattern.sub(let, src)
         for v in lets:
             roots.add(v)
@@ -265,17 +328,33 @@ def convert(root, crate, folder, names):
             word = m.group(0)
             lead = re.match(r"[-←]*", word).group(0) if len(word) > 1 else ""
             parts = word[len(lead):].split(".")
+            if parts[0] in roots and parts[1:] and set(parts[1:]) == {"⁀"}:
+                if parts[0] in lets and "c" in roots:
+                    far = len(parts) - 1 + (names.up(goal, olds[parts[0]]) or 0)
+                    return "c" + ".before" * far
+                return ".".join([parts[0]] + ["before"] * (len(parts) - 1))
             if parts[0] in roots and len(parts) > 1:
                 root = "c" if parts[0] in lets and "c" in roots else parts[0]
                 return lead + ".".join([root] + names.chain(parts[1:]))
             return word
 
         src = re.sub(W, chain, src)
+        m = re.search(r"elim c\.if-(" + W + r")\.branch \[[\s|]*inl (\w+) ↦.*\| inr (\w+) ↦", src, re.S)
+        if m:
+            cond = m.group(1)
+            src = re.sub(r"\binl (\w+) ↦", lambda mm: f"goal.then-{cond} {mm.group(1)} ↦", src)
+            src = re.sub(r"\binr (\w+) ↦", lambda mm: f"goal.else-{cond} {mm.group(1)} ↦", src)
+            for v in {m.group(2), m.group(3)}:
+                src = re.sub(r"(?<![\w.'-])" + v + r"\.0\.(taken|right)(?![\w'-])", f"{v}.if-{cond}.true", src)
+                src = re.sub(r"(?<![\w.'-])" + v + r"\.0\.left(?![\w'-])", f"{v}.if-{cond}.false", src)
+        src = re.sub(r"not-(true|false) _ ((?:" + "|".join(map(re.escape, roots or {"c"})) + r")\.[^\s()]+\.\1)(?![\w'-])", lambda mm: mm.group(2) if re.search(r"\.if\d*-not-", mm.group(2)) else mm.group(0), src)
         for v, new in lets.items():
             rest = src.replace(f"\0let {v}\0", "")
             if re.search(r"(?<![\w.'-])" + re.escape(v) + r"(?![\w'-])", rest) and v != "c":
+                k = names.up(goal, olds[v])
                 imports.add(new)
-                src = src.replace(f"\0let {v}\0", f"let {v} : {new} = search rules in\n    ")
+                way = "c" + ".before" * k if k is not None and "c" in roots else "search rules"
+                src = src.replace(f"\0let {v}\0", f"let {v} : {new} = {way} in\n    ")
             else:
                 src = src.replace(f"\0let {v}\0", "")
         return src
@@ -315,7 +394,16 @@ def convert(root, crate, folder, names):
                     ps[0] = table[ps[0]]
                 return lead + ".".join(ps)
 
-            body = re.sub(W, sub, body)
+            for b in re.findall(r"λ (" + W + r")\. ", body):
+                if b in table:
+                    at = body.index(f"λ {b}. ")
+                    depth, end = 0, at
+                    while end < len(body) and depth >= 0:
+                        depth += (body[end] in "([{") - (body[end] in ")]}")
+                        end += 1
+                    inner = re.sub(r"(?<![\w.'-])" + re.escape(b) + r"(?![\w'-])", b + "⁀", body[at:end])
+                    body = body[:at] + inner + body[end:]
+            body = re.sub(W, sub, body).replace("⁀", "")
             invariants.append((comment, f"abbrev pub {kind}-{new} : goal.{kind}-{new}\n{kind}-{new} l ={body}"))
             continue
         m = re.match(r"(" + W + r") : tie\.Need-(" + W + r")((?: (?:invariant|decreases)-loop\d*)*)\n((?:unfolding [^\n]*\n)?)\1((?: [^\s=:]+)*) =", src)
@@ -325,9 +413,9 @@ def convert(root, crate, folder, names):
             args = [a for a in m.group(5).split() if a != "κs"]
             body = src[m.end():]
             b = body.strip()
-            if re.fullmatch(r"(search rules|omega arith|refl)", b):
+            if re.fullmatch(r"(search rules|omega arith|refl)", b) and not m.group(4):
                 continue
-            body = by_clauses(turn(body, args[:1]), names.asked.get(new))
+            body = by_clauses(turn(body, args[:1], new), names.asked.get(new))
             rest = "".join("\n" + x for x in re.findall(r"\n(?=  where)", body))
             entry = f"pub {new} : goal.{new}\n{m.group(4)}{new} {' '.join(args)} ={body}"
             if new is None:
@@ -377,7 +465,7 @@ def convert(root, crate, folder, names):
             if hi_i - lo_i == hi - lo:
                 new = order[lo + i - lo_i]
         if new:
-            answers.append(([], f"pub {new} : goal.{new}\n{new} c =\n    {by_clauses(turn(body, ['c']), names.asked.get(new))}"))
+            answers.append(([], f"pub {new} : goal.{new}\n{new} c =\n    {by_clauses(turn(body, ['c'], new), names.asked.get(new))}"))
         else:
             unplaced.append(f"inline {i}: {a}")
 
@@ -436,7 +524,7 @@ def main(argv):
         if key not in data:
             print(folder, "has no names")
             continue
-        own = known.get(crate + "::" + folder.replace("/", "::"), ([], []))
+        own = known.get(crate + "::" + folder.replace("/", "::"), ([], [], []))
         convert(root, crate, folder, Names(data[key], known, own))
 
 

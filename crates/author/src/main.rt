@@ -20,16 +20,16 @@ fn say_end(done: bool, word: &[u8]) {
 }
 
 // The two words from argument i on.
-fn answer(i: usize, block: usize) {
-    if files::is_word(i, b"--text") {
-        say_end(show_block(block), b"shown\n");
+fn answer(rt: &HostRuntime, i: usize, block: usize) {
+    if files::is_word(rt, i, b"--text") {
+        say_end(show_block(rt, block), b"shown\n");
         return;
     }
-    say_end(make_block(i, block), b"written\n");
+    say_end(make_block(rt, i, block), b"written\n");
 }
 
-fn main() {
-    let words = os::arg_count();
+fn main(rt: HostRuntime) {
+    let words = files::word_count(&rt);
     let mut missing = words < 2;
     let mut i: usize = 1;
     while i < words {
@@ -37,7 +37,7 @@ fn main() {
             missing = true;
             break;
         }
-        answer(i, i + 1);
+        answer(&rt, i, i + 1);
         i += 2;
     }
     if missing {

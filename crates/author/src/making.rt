@@ -8,10 +8,10 @@ use saying::{end_line, refused_at, say, say_argument, say_line_refusal, say_numb
 use writer::Writing;
 
 // Why the text that argument i names is refused.
-fn say_fault(i: usize, made: Made, text: &[u8]) {
+fn say_fault(rt: &HostRuntime, i: usize, made: Made, text: &[u8]) {
     let mut words = io::large_buffer();
     let n = why(made, text, &mut words);
-    say_argument(i);
+    say_argument(rt, i);
     say(b": line ");
     say_number(made.line);
     say(b": ");
@@ -19,8 +19,8 @@ fn say_fault(i: usize, made: Made, text: &[u8]) {
     end_line();
 }
 
-fn say_too_long(i: usize, length: usize) {
-    say_argument(i);
+fn say_too_long(rt: &HostRuntime, i: usize, length: usize) {
+    say_argument(rt, i);
     say(b": ");
     say_number(length);
     say(b" bytes, allowed at most ");
@@ -30,51 +30,51 @@ fn say_too_long(i: usize, length: usize) {
 
 // Writes the plan, which reading gave, to the file that argument `output` names. No such plan is refused, and no block
 // is longer than the room.
-fn write_plan(plan: Plan, version: u16, output: usize) -> bool {
+fn write_plan(rt: &HostRuntime, plan: Plan, version: u16, output: usize) -> bool {
     let mut block = [0u8; BLOCK_ROOM];
     let Writing::Written(n) = writer::write(plan, version, &mut block) else {
-        say_argument(output);
+        say_argument(rt, output);
         say(b": the plan cannot be written\n");
         return false;
     };
-    store_block(output, first(&block, n))
+    store_block(rt, output, first(&block, n))
 }
 
 // The bytes that were made of the text.
-fn write_bytes(i: usize, bytes: &[u8], output: usize) -> bool {
+fn write_bytes(rt: &HostRuntime, i: usize, bytes: &[u8], output: usize) -> bool {
     let reading = block::read(bytes);
     let field = reading.field;
     if reading.number != 0 {
         let line = line_of(bytes, refused_at(reading.number, reading.place, field));
-        say_line_refusal(i, line, reading.number, reading.place, field, bytes);
+        say_line_refusal(rt, i, line, reading.number, reading.place, field, bytes);
         return false;
     }
     let plan = reading.plan;
-    write_plan(plan, version_of(bytes), output)
+    write_plan(rt, plan, version_of(bytes), output)
 }
 
-fn write_text(i: usize, text: &[u8], output: usize) -> bool {
+fn write_text(rt: &HostRuntime, i: usize, text: &[u8], output: usize) -> bool {
     let mut bytes = [0u8; BLOCK_ROOM];
     let made = make(text, &mut bytes);
     if made.reason != 0 {
-        say_fault(i, made, text);
+        say_fault(rt, i, made, text);
         return false;
     }
-    write_bytes(i, first(&bytes, made.length), output)
+    write_bytes(rt, i, first(&bytes, made.length), output)
 }
 
 // Makes the block of the text that argument i names; false, having said why, where nothing was written.
-pub(crate) fn make_block(i: usize, output: usize) -> bool {
-    if !files::is_readable(i) {
-        say_unread(i);
+pub(crate) fn make_block(rt: &HostRuntime, i: usize, output: usize) -> bool {
+    if !files::is_readable(rt, i) {
+        say_unread(rt, i);
         return false;
     }
-    let length = files::file_length(i);
+    let length = files::file_length(rt, i);
     if TEXT_ROOM < length {
-        say_too_long(i, length);
+        say_too_long(rt, i, length);
         return false;
     }
     let mut text = [0u8; TEXT_ROOM];
-    let n = files::load_end(i, &mut text);
-    write_text(i, &text[..n], output)
+    let n = files::load_end(rt, i, &mut text);
+    write_text(rt, i, &text[..n], output)
 }

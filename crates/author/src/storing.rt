@@ -1,33 +1,40 @@
 // A block to its file: written beside it, and moved into place when it is whole.
-use files::{create_beside, move_into_place, remove_beside, sum_beside};
+use files::{code_of, create_beside, move_into_place, remove_beside, sum_beside};
 use saying::{end_line, say, say_argument, say_number};
+use std::fs::File;
+use std::io::{Error, Write};
 
-fn say_unwritten(output: usize) {
-    saying::say_unwritten(output, os::errno(), b"author");
+fn say_unwritten(rt: &HostRuntime, output: usize, error: Error) {
+    saying::say_unwritten(rt, output, code_of(&error), b"author");
 }
 
-// Whether all bytes were written and have reached the disk; says why where not.
-fn is_kept(output: usize, fd: i32, block: &[u8]) -> bool {
-    if !io::write_all(fd, block) {
-        say_unwritten(output);
-        return false;
+// Writes all bytes, and has them reach the disk.
+fn keep(file: &File, block: &[u8]) -> std::io::Result<()> {
+    let mut written = file;
+    written.write_all(block)?;
+    file.sync_data()
+}
+
+// Whether all bytes were written and have reached the disk; says why where not. The file is closed.
+fn is_kept(rt: &HostRuntime, output: usize, file: File, block: &[u8]) -> bool {
+    match keep(&file, block) {
+        Ok(()) => true,
+        Err(error) => {
+            say_unwritten(rt, output, error);
+            false
+        }
     }
-    if libc::fdatasync(fd) != 0 {
-        say_unwritten(output);
-        return false;
-    }
-    true
 }
 
 // The file beside is whole: moves it into place, and says its check sum as it stands.
-fn finish(output: usize, length: usize) -> bool {
-    let sum = sum_beside(output);
-    if !move_into_place(output) {
-        say_unwritten(output);
-        remove_beside(output);
+fn finish(rt: &HostRuntime, output: usize, length: usize) -> bool {
+    let sum = sum_beside(rt, output);
+    if let Err(error) = move_into_place(rt, output) {
+        say_unwritten(rt, output, error);
+        remove_beside(rt, output);
         return false;
     }
-    say_argument(output);
+    say_argument(rt, output);
     say(b": ");
     say_number(length);
     say(b" bytes, Adler-32 ");
@@ -37,17 +44,17 @@ fn finish(output: usize, length: usize) -> bool {
 }
 
 // Writes the block to the file that argument `output` names; false, having said why, where it cannot be written.
-pub(crate) fn store_block(output: usize, block: &[u8]) -> bool {
-    let fd = create_beside(output);
-    if fd < 0 {
-        say_unwritten(output);
+pub(crate) fn store_block(rt: &HostRuntime, output: usize, block: &[u8]) -> bool {
+    let file = match create_beside(rt, output) {
+        Ok(file) => file,
+        Err(error) => {
+            say_unwritten(rt, output, error);
+            return false;
+        }
+    };
+    if !is_kept(rt, output, file, block) {
+        remove_beside(rt, output);
         return false;
     }
-    let kept = is_kept(output, fd, block);
-    libc::close(fd);
-    if !kept {
-        remove_beside(output);
-        return false;
-    }
-    finish(output, block.len())
+    finish(rt, output, block.len())
 }

@@ -9,33 +9,33 @@ mod pictures; // all bands of all pictures
 
 ghost use Rattle.std.specs.Prelude.{◌<◌, ◌≤◌};
 
-use files::{BLOCK_ROOM, is_readable, is_word, load_end};
+use files::{BLOCK_ROOM, is_readable, is_word, load_end, word_count};
 use picture_files::group::Names;
 use picture_files::schedule::{Way, way_of};
 use pictures::compose_plan;
 use saying::{say, say_refusal, say_unread};
 
-fn compose_block(names: Names, way: Way, bytes: &[u8]) -> bool {
+fn compose_block(rt: &HostRuntime, names: Names, way: Way, bytes: &[u8]) -> bool {
     let reading = block::read(bytes);
     if reading.number != 0 {
         let field = reading.field;
-        say_refusal(names.block, reading.number, reading.place, field, bytes);
+        say_refusal(rt, names.block, reading.number, reading.place, field, bytes);
         return false;
     }
     let plan = reading.plan;
-    compose_plan(names, way, plan)
+    compose_plan(rt, names, way, plan)
 }
 
-fn compose_group(names: Names, way: Way) -> bool {
+fn compose_group(rt: &HostRuntime, names: Names, way: Way) -> bool {
     let mut bytes = [0u8; BLOCK_ROOM];
-    let n = load_end(names.block, &mut bytes);
+    let n = load_end(rt, names.block, &mut bytes);
     if n == 0 {
-        if !is_readable(names.block) {
-            say_unread(names.block);
+        if !is_readable(rt, names.block) {
+            say_unread(rt, names.block);
             return false;
         }
     }
-    compose_block(names, way, &bytes[..n])
+    compose_block(rt, names, way, &bytes[..n])
 }
 
 fn say_use() {
@@ -58,16 +58,16 @@ fn first_of(late: bool, i: usize, words: usize) -> usize
     if late { i + 1 } else { i }
 }
 
-fn main() {
-    let words = os::arg_count();
-    let standby = is_word(1, b"--standby");
+fn main(rt: HostRuntime) {
+    let words = word_count(&rt);
+    let standby = is_word(&rt, 1, b"--standby");
     let mut i: usize = if standby { 2 } else { 1 };
     if words <= i {
         say_use();
         return;
     }
     while i < words {
-        let late = is_word(i, b"--late");
+        let late = is_word(&rt, i, b"--late");
         let first = first_of(late, i, words);
         if words - first < 4 {
             say_use();
@@ -79,7 +79,7 @@ fn main() {
             enhancement: first + 2,
             output: first + 3,
         };
-        let written = compose_group(names, way_of(standby, late));
+        let written = compose_group(&rt, names, way_of(standby, late));
         say_end(written);
         i = first + 4;
     }

@@ -105,6 +105,7 @@ fn given<'a>(bare: bool, enhancement: &'a [u16]) -> &'a [u16] {
 
 // Sends one job, whose row pairs count from the band's first; a bare one goes without the enhancement.
 fn send(
+    rt: &HostRuntime,
     t: Task,
     plan: Plan,
     j: Named,
@@ -129,7 +130,7 @@ fn send(
     );
     let refusal = number(answer);
     if refusal != 0 {
-        say_sample(t.names, t.band, plan.header, refusal, j, base, brought);
+        say_sample(rt, t.names, t.band, plan.header, refusal, j, base, brought);
         return REFUSED;
     }
     if is_said(way) {
@@ -187,6 +188,7 @@ pub(crate) fn open_band(plan: Plan, marks: &mut [u8]) -> bool {
 
 // Sends the band's jobs from number `from` up to number `to`.
 pub(crate) fn send_jobs(
+    rt: &HostRuntime,
     t: Task,
     plan: Plan,
     from: u16,
@@ -204,7 +206,7 @@ pub(crate) fn send_jobs(
         say_before(way, t.band, k);
         let j = job_at(way, count, k);
         let bare = is_bare(way, count, k);
-        state = send(t, plan, j, bare, base, enhancement, output, marks);
+        state = send(rt, t, plan, j, bare, base, enhancement, output, marks);
         if state == REFUSED {
             return REFUSED;
         }

@@ -21,9 +21,10 @@ fn of_height(plan: Plan, pairs: u16) -> Plan {
 
 // Of a late group: sends the jobs that go before the enhancement comes, and stores the band as it then is.
 fn compose_early(
+    rt: &HostRuntime,
     t: Task,
     plan: Plan,
-    f: Files,
+    f: &Files,
     base: &[u16],
     enhancement: &[u16],
     output: &mut [u16],
@@ -34,18 +35,19 @@ fn compose_early(
         return true;
     }
     let to = come_at(way, count_of(t.band));
-    let state = send_jobs(t, plan, 0, to, base, enhancement, output, marks);
+    let state = send_jobs(rt, t, plan, 0, to, base, enhancement, output, marks);
     if state != COMPLETE {
         return false;
     }
-    store_early(t.names, t.band, f, output)
+    store_early(rt, t.names, t.band, f, output)
 }
 
 // Sends the jobs from then on, of any other group all of them, and stores the band where it is complete.
 fn compose_rest(
+    rt: &HostRuntime,
     t: Task,
     plan: Plan,
-    f: Files,
+    f: &Files,
     base: &[u16],
     enhancement: &[u16],
     output: &mut [u16],
@@ -55,18 +57,19 @@ fn compose_rest(
     let count = count_of(t.band);
     let from = come_at(way, count);
     let to = jobs_of(way, count);
-    let state = send_jobs(t, plan, from, to, base, enhancement, output, marks);
+    let state = send_jobs(rt, t, plan, from, to, base, enhancement, output, marks);
     if state != COMPLETE {
         return false;
     }
-    store_run(t.names, way, t.band, f, output)
+    store_run(rt, t.names, way, t.band, f, output)
 }
 
 // Opens the band that is loaded, sends its jobs and stores it.
 fn compose_loaded(
+    rt: &HostRuntime,
     t: Task,
     plan: Plan,
-    f: Files,
+    f: &Files,
     base: &[u16],
     enhancement: &[u16],
     output: &mut [u16],
@@ -75,26 +78,27 @@ fn compose_loaded(
     if !open_band(plan, marks) {
         return false;
     }
-    if !compose_early(t, plan, f, base, enhancement, output, marks) {
+    if !compose_early(rt, t, plan, f, base, enhancement, output, marks) {
         return false;
     }
-    compose_rest(t, plan, f, base, enhancement, output, marks)
+    compose_rest(rt, t, plan, f, base, enhancement, output, marks)
 }
 
 // Loads the band and composes it.
 fn compose_runs(
+    rt: &HostRuntime,
     t: Task,
     plan: Plan,
-    f: Files,
+    f: &Files,
     base: &mut [u16],
     enhancement: &mut [u16],
     output: &mut [u16],
     marks: &mut [u8],
 ) -> bool {
-    if !load_runs(t.names, t.band, f, base, enhancement) {
+    if !load_runs(rt, t.names, t.band, f, base, enhancement) {
         return false;
     }
-    compose_loaded(t, plan, f, base, enhancement, output, marks)
+    compose_loaded(rt, t, plan, f, base, enhancement, output, marks)
 }
 
 // No more than there is room for. Were that ever less than the band has, its job would be refused by rule 9.
@@ -106,9 +110,10 @@ fn at_most(n: usize, room: usize) -> usize
 
 // One band, in the front of the runs; false, having said why, where something is refused or cannot be read or written.
 fn compose_band(
+    rt: &HostRuntime,
     t: Task,
     plan: Plan,
-    f: Files,
+    f: &Files,
     base: &mut [u16],
     enhancement: &mut [u16],
     output: &mut [u16],
@@ -120,6 +125,7 @@ fn compose_band(
     let in_output = at_most(n, output.len());
     let pairs = at_most(pairs_in(t.band), marks.len());
     compose_runs(
+        rt,
         t,
         plan,
         f,
@@ -145,10 +151,11 @@ fn pairs_of(h: Header) -> u16 {
 
 // One picture, which begins at a byte of the files.
 fn compose_picture(
+    rt: &HostRuntime,
     names: Names,
     way: Way,
     plan: Plan,
-    f: Files,
+    f: &Files,
     picture: usize,
     start: usize,
 ) -> bool {
@@ -176,6 +183,7 @@ fn compose_picture(
         };
         let part = of_height(plan, count);
         if !compose_band(
+            rt,
             t,
             part,
             f,
@@ -187,17 +195,17 @@ fn compose_picture(
             return false;
         }
         first += count;
-        say_progress(picture, f.pictures, pairs - first);
+        say_progress(rt, picture, f.pictures, pairs - first);
     }
     true
 }
 
 // All pictures.
-fn compose_pictures(names: Names, way: Way, plan: Plan, f: Files) -> bool {
+fn compose_pictures(rt: &HostRuntime, names: Names, way: Way, plan: Plan, f: &Files) -> bool {
     let mut start: usize = 0;
     let mut picture: usize = 0;
     while picture < f.pictures {
-        if !compose_picture(names, way, plan, f, picture, start) {
+        if !compose_picture(rt, names, way, plan, f, picture, start) {
             return false;
         }
         start = wrapping_add_usize(start, f.size);
@@ -208,12 +216,11 @@ fn compose_pictures(names: Names, way: Way, plan: Plan, f: Files) -> bool {
 
 // Composes what the four words name, by the plan that the block gave; false, having said why, where nothing was
 // written.
-pub(crate) fn compose_plan(names: Names, way: Way, plan: Plan) -> bool {
-    let f = open_files(names, plan.header);
-    if f.pictures == 0 {
+pub(crate) fn compose_plan(rt: &HostRuntime, names: Names, way: Way, plan: Plan) -> bool {
+    let Some(f) = open_files(rt, names, plan.header) else {
         return false;
-    }
-    let whole = compose_pictures(names, way, plan, f);
-    end_progress();
-    close_files(names, way, f, whole)
+    };
+    let whole = compose_pictures(rt, names, way, plan, &f);
+    end_progress(rt);
+    close_files(rt, names, way, f, whole)
 }

@@ -1,6 +1,8 @@
 // The Adler-32 of a file (RFC 1950), which zlib and many tools give.
 ghost use Rattle.std.specs.Prelude.{◌<◌};
 
+use crate::read_full;
+use std::fs::File;
 use std::num::wrapping_add_u64;
 
 // The two sums, each below 65,521 after every part of a file.
@@ -46,12 +48,12 @@ fn fewer(left: usize, n: usize) -> usize
 }
 
 // The check sum of the bytes that come next in the file, as many as wanted, or of all where it has fewer.
-pub(crate) fn adler32(fd: i32, wanted: usize) -> usize {
+pub(crate) fn adler32(file: &File, wanted: usize) -> usize {
     let mut sums = Sums { a: 1, b: 0 };
     let mut left = wanted;
     while 0 < left {
         let mut bytes = io::large_buffer();
-        let n = io::read_full(fd, &mut bytes);
+        let n = read_full(file, &mut bytes);
         if n == 0 {
             break;
         }

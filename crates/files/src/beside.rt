@@ -3,7 +3,9 @@
 ghost use Rattle.io.specs.Counts.{IsPrefixLen};
 
 use crate::adler::adler32;
-use crate::{length_of, not_below_zero, seek};
+use crate::words::{argument, path_of};
+use crate::{length_of, length_or_none, seek};
+use std::fs::{File, remove_file, rename};
 
 fn put(bytes: &mut [u8], i: usize, b: u8) {
     if i < bytes.len() {
@@ -34,71 +36,79 @@ fn with_part(n: usize, path: &mut [u8]) -> usize
 }
 
 // The name beside the one that argument i is.
-fn name_beside(i: usize, path: &mut [u8]) -> usize
+fn name_beside(rt: &HostRuntime, i: usize, path: &mut [u8]) -> usize
     ensures { IsPrefixLen result path.new }
 {
-    let n = os::arg(i, path);
+    let n = argument(rt, i, path);
     with_part(n, path)
 }
 
-// Makes the file beside, and answers a descriptor open for writing; negative where it cannot be made, as where it is
-// there.
-pub fn create_beside(i: usize) -> i32 {
+// Makes the file beside, open for writing; an error where it cannot be made, as where it is there.
+pub fn create_beside(rt: &HostRuntime, i: usize) -> std::io::Result<File> {
     let mut path = io::large_buffer();
-    let n = name_beside(i, &mut path);
-    os::create(&path[..n])
+    let n = name_beside(rt, i, &mut path);
+    File::options()
+        .write(true)
+        .create_new(true)
+        .open(rt, path_of(&path[..n])?)
 }
 
-// The file beside, open for reading; negative where it cannot be.
-fn open_beside(i: usize) -> i32 {
+// The file beside, open for reading.
+fn open_beside(rt: &HostRuntime, i: usize) -> std::io::Result<File> {
     let mut path = io::large_buffer();
-    let n = name_beside(i, &mut path);
-    os::open_read(&path[..n])
+    let n = name_beside(rt, i, &mut path);
+    File::open(rt, path_of(&path[..n])?)
 }
 
-// The check sum of all that stands in the file beside.
-pub fn sum_beside(i: usize) -> usize {
-    let fd = open_beside(i);
-    let length = not_below_zero(length_of(fd));
-    seek(fd, 0);
-    let sum = adler32(fd, length);
-    libc::close(fd);
-    sum
+// The check sum of all that stands in an open file.
+fn sum_of(file: &File) -> usize {
+    let length = length_or_none(file);
+    seek(file, 0);
+    adler32(file, length)
+}
+
+// The check sum of all that stands in the file beside; of nothing where it cannot be opened.
+pub fn sum_beside(rt: &HostRuntime, i: usize) -> usize {
+    match open_beside(rt, i) {
+        Ok(file) => sum_of(&file),
+        Err(_) => 1,
+    }
+}
+
+// Cuts an open file at its own length.
+fn cut(file: &File) -> std::io::Result<()> {
+    let length = length_of(file)?;
+    file.set_len(length)
 }
 
 // Whether what stands under a name may be replaced: nothing, or a regular file, which alone can be cut at its own
-// length. A device would be gone for good, since moving takes its name away.
-fn can_replace(path: &[u8]) -> bool {
-    let fd = os::open_update(path);
-    if fd < 0 {
-        return true;
+// length. A device would be gone for good, since moving takes its name away. The error says why not.
+fn can_replace(rt: &HostRuntime, path: &str) -> std::io::Result<()> {
+    match File::options().read(true).write(true).open(rt, path) {
+        Ok(file) => cut(&file),
+        Err(_) => Ok(()),
     }
-    let length = length_of(fd);
-    if length < 0 {
-        return false;
-    }
-    if libc::ftruncate(fd, length) != 0 {
-        return false;
-    }
-    libc::close(fd);
-    true
 }
 
-// Moves the file beside to the name that argument i is; whether that was done. Where not, errno says why, EINVAL that
-// something stands there that is no file.
-pub fn move_into_place(i: usize) -> bool {
+// Moves the file beside to the name that argument i is; the error says why it could not, EINVAL that something stands
+// there that is no file.
+pub fn move_into_place(rt: &HostRuntime, i: usize) -> std::io::Result<()> {
     let mut from = io::large_buffer();
-    let n = name_beside(i, &mut from);
+    let n = name_beside(rt, i, &mut from);
     let mut to = io::large_buffer();
-    let m = os::arg(i, &mut to);
-    if !can_replace(&to[..m]) {
-        return false;
-    }
-    os::rename(&from[..n], &to[..m]) == 0
+    let m = argument(rt, i, &mut to);
+    let path = path_of(&to[..m])?;
+    can_replace(rt, path)?;
+    rename(rt, path_of(&from[..n])?, path)
 }
 
-pub fn remove_beside(i: usize) {
+// Removes the file at this path, where it can.
+fn remove(rt: &HostRuntime, path: &[u8]) -> std::io::Result<()> {
+    remove_file(rt, path_of(path)?)
+}
+
+pub fn remove_beside(rt: &HostRuntime, i: usize) {
     let mut path = io::large_buffer();
-    let n = name_beside(i, &mut path);
-    os::unlink(&path[..n]);
+    let n = name_beside(rt, i, &mut path);
+    let _ = remove(rt, &path[..n]);
 }

@@ -1,7 +1,9 @@
 // Runs of samples from their places in a file and back: two bytes a sample, the low byte first.
 ghost use Rattle.std.specs.Prelude.{◌<◌, ◌≤◌, length};
 
-use crate::seek;
+use crate::{read_full, seek};
+use std::fs::File;
+use std::io::Write;
 
 // As many samples as go through memory at once.
 const PART: usize = 32768;
@@ -59,32 +61,33 @@ fn pack(run: &[u16], bytes: &mut [u8]) {
 }
 
 // Fills the first bytes, as many as wanted, with those that come next in the file; false where it has not so many.
-fn read_some(fd: i32, wanted: usize, bytes: &mut [u8]) -> bool {
+fn read_some(file: &File, wanted: usize, bytes: &mut [u8]) -> bool {
     if bytes.len() < wanted {
         return false;
     }
-    let n = io::read_full(fd, &mut bytes[..wanted]);
+    let n = read_full(file, &mut bytes[..wanted]);
     n == wanted
 }
 
 // Fills the run with the samples that come next in the file; false where it has not so many.
-fn load_part(fd: i32, run: &mut [u16]) -> bool
+fn load_part(file: &File, run: &mut [u16]) -> bool
     requires { length run.old ≤ 32768 }
 {
     let mut bytes = io::large_buffer();
-    if !read_some(fd, 2 * run.len(), &mut bytes) {
+    if !read_some(file, 2 * run.len(), &mut bytes) {
         return false;
     }
     unpack(&bytes, run);
     true
 }
 
-fn store_part(fd: i32, run: &[u16]) -> bool
+fn store_part(file: &File, run: &[u16]) -> std::io::Result<()>
     requires { length run.now ≤ 32768 }
 {
     let mut bytes = io::large_buffer();
     pack(run, &mut bytes);
-    io::write_all(fd, &bytes[..2 * run.len()])
+    let mut written = file;
+    written.write_all(&bytes[..2 * run.len()])
 }
 
 // How many samples go next, where so many are left.
@@ -96,12 +99,12 @@ fn part(left: usize) -> usize
 }
 
 // Fills the run with the samples from a byte of the file on; false where it has not so many.
-pub fn load(fd: i32, place: usize, run: &mut [u16]) -> bool {
-    seek(fd, place);
+pub fn load(file: &File, place: usize, run: &mut [u16]) -> bool {
+    seek(file, place);
     let mut at: usize = 0;
     while at < run.len() {
         let n = part(run.len() - at);
-        if !load_part(fd, &mut run[at..at + n]) {
+        if !load_part(file, &mut run[at..at + n]) {
             return false;
         }
         at += n;
@@ -109,16 +112,14 @@ pub fn load(fd: i32, place: usize, run: &mut [u16]) -> bool {
     true
 }
 
-// Writes the run from a byte of the file on; false where it cannot be written.
-pub fn store(fd: i32, place: usize, run: &[u16]) -> bool {
-    seek(fd, place);
+// Writes the run from a byte of the file on; the error says why it cannot be written.
+pub fn store(file: &File, place: usize, run: &[u16]) -> std::io::Result<()> {
+    seek(file, place);
     let mut at: usize = 0;
     while at < run.len() {
         let n = part(run.len() - at);
-        if !store_part(fd, &run[at..at + n]) {
-            return false;
-        }
+        store_part(file, &run[at..at + n])?;
         at += n;
     }
-    true
+    Ok(())
 }

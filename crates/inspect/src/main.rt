@@ -14,27 +14,27 @@ use saying::{say, say_refusal, say_rules, say_unread};
 use show::show_block;
 
 // A block from the last bytes of the file that argument i names; whether it was shown.
-fn inspect_block(i: usize, bytes: &[u8], plotted: bool) -> bool {
+fn inspect_block(rt: &HostRuntime, i: usize, bytes: &[u8], plotted: bool) -> bool {
     let reading = block::read(bytes);
     if reading.number != 0 {
         let field = reading.field;
-        say_refusal(i, reading.number, reading.place, field, bytes);
+        say_refusal(rt, i, reading.number, reading.place, field, bytes);
         return false;
     }
     let plan = reading.plan;
-    show_block(i, bytes, plan, plotted);
+    show_block(rt, i, bytes, plan, plotted);
     true
 }
 
 // The file that argument i names. An empty one can be read, and is refused as a block.
-fn inspect_file(i: usize, plotted: bool) -> bool {
-    if !files::is_readable(i) {
-        say_unread(i);
+fn inspect_file(rt: &HostRuntime, i: usize, plotted: bool) -> bool {
+    if !files::is_readable(rt, i) {
+        say_unread(rt, i);
         return false;
     }
     let mut bytes = [0u8; BLOCK_ROOM];
-    let n = files::load_end(i, &mut bytes);
-    inspect_block(i, &bytes[..n], plotted)
+    let n = files::load_end(rt, i, &mut bytes);
+    inspect_block(rt, i, &bytes[..n], plotted)
 }
 
 fn say_shown(shown: bool) {
@@ -45,28 +45,28 @@ fn say_shown(shown: bool) {
 }
 
 // Answers argument i, which is a block to be plotted where the one before it was --plot; whether it is --plot itself.
-fn answer(i: usize, plotted: bool) -> bool {
+fn answer(rt: &HostRuntime, i: usize, plotted: bool) -> bool {
     if !plotted {
-        if files::is_word(i, b"--plot") {
+        if files::is_word(rt, i, b"--plot") {
             return true;
         }
-        if files::is_word(i, b"--rules") {
+        if files::is_word(rt, i, b"--rules") {
             say_rules();
             say_shown(true);
             return false;
         }
     }
-    say_shown(inspect_file(i, plotted));
+    say_shown(inspect_file(rt, i, plotted));
     false
 }
 
 // A block is missing where there is no word at all, or where --plot is the last one.
-fn main() {
-    let words = os::arg_count();
+fn main(rt: HostRuntime) {
+    let words = files::word_count(&rt);
     let mut missing = words < 2;
     let mut i: usize = 1;
     while i < words {
-        missing = answer(i, missing);
+        missing = answer(&rt, i, missing);
         i += 1;
     }
     if missing {

@@ -6,13 +6,13 @@ use plan::{Component, Header, Plan};
 use saying::{bytes_before, say_argument, say_part, trailer_number};
 
 // The file's name and length, and the header.
-fn show_start(i: usize, bytes: &[u8], before: usize, h: Header, plotted: bool) {
+fn show_start(rt: &HostRuntime, i: usize, bytes: &[u8], before: usize, h: Header, plotted: bool) {
     if plotted {
         put_line(START);
         return;
     }
-    say_argument(i);
-    show(BYTES, files::file_length(i));
+    say_argument(rt, i);
+    show(BYTES, files::file_length(rt, i));
     say_part(0, bytes, before);
     show_header(h);
 }
@@ -43,13 +43,13 @@ fn show_end(bytes: &[u8], before: usize, plotted: bool) {
 }
 
 // The bytes are the last ones of the file that argument i names.
-pub(crate) fn show_block(i: usize, bytes: &[u8], plan: Plan, plotted: bool) {
+pub(crate) fn show_block(rt: &HostRuntime, i: usize, bytes: &[u8], plan: Plan, plotted: bool) {
     let h = plan.header;
     let y = plan.y;
     let cb = plan.cb;
     let cr = plan.cr;
-    let before = bytes_before(i, bytes);
-    show_start(i, bytes, before, h, plotted);
+    let before = bytes_before(rt, i, bytes);
+    show_start(rt, i, bytes, before, h, plotted);
     show_section(1, bytes, before, plan, y, plotted);
     show_section(2, bytes, before, plan, cb, plotted);
     show_section(3, bytes, before, plan, cr, plotted);

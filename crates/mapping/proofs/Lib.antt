@@ -1,4 +1,5 @@
 pub mod Differences
+pub mod Held
 pub mod InOrder
 pub mod Mappable
 pub mod Meaning

@@ -5,6 +5,8 @@ ghost use Rattle.std.specs.Prelude.{◌<◌, ◌≤◌};
 
 use files::{load, store};
 use picture::chroma_size;
+use std::fs::File;
+use std::io::{Error, ErrorKind};
 use std::num::wrapping_add_usize;
 
 // The samples of a band at most: eight row pairs of the widest picture.
@@ -44,24 +46,25 @@ pub fn band_of(columns: u16, left: u16) -> u16
 }
 
 // Loads a part of the run, where the run has it.
-fn load_plane(fd: i32, place: usize, at: usize, n: usize, run: &mut [u16]) -> bool {
+fn load_plane(file: &File, place: usize, at: usize, n: usize, run: &mut [u16]) -> bool {
     if run.len() < at {
         return false;
     }
     if run.len() - at < n {
         return false;
     }
-    load(fd, place, &mut run[at..at + n])
+    load(file, place, &mut run[at..at + n])
 }
 
-fn store_plane(fd: i32, place: usize, at: usize, n: usize, run: &[u16]) -> bool {
+// Stores a part of the run, where the run has it.
+fn store_plane(file: &File, place: usize, at: usize, n: usize, run: &[u16]) -> std::io::Result<()> {
     if run.len() < at {
-        return false;
+        return Err(Error::from(ErrorKind::InvalidData));
     }
     if run.len() - at < n {
-        return false;
+        return Err(Error::from(ErrorKind::InvalidData));
     }
-    store(fd, place, &run[at..at + n])
+    store(file, place, &run[at..at + n])
 }
 
 // The bytes of the file at which the band's parts of the planes begin.
@@ -83,21 +86,23 @@ fn places_of(b: Band) -> Places {
 }
 
 // The band from the file; false where it cannot be read.
-pub fn load_band(fd: i32, b: Band, run: &mut [u16]) -> bool {
+pub fn load_band(file: &File, b: Band, run: &mut [u16]) -> bool {
     let n = chroma_size(b.columns, b.count);
     let p = places_of(b);
-    let has_y = load_plane(fd, p.y, 0, 4 * n, run);
-    let has_cb = load_plane(fd, p.cb, 4 * n, n, run);
-    let has_cr = load_plane(fd, p.cr, 5 * n, n, run);
+    let has_y = load_plane(file, p.y, 0, 4 * n, run);
+    let has_cb = load_plane(file, p.cb, 4 * n, n, run);
+    let has_cr = load_plane(file, p.cr, 5 * n, n, run);
     has_y & (has_cb & has_cr)
 }
 
-// The band to the file; false where it cannot be written.
-pub fn store_band(fd: i32, b: Band, run: &[u16]) -> bool {
+// The band to the file; the error says why a plane of it, the last of those, cannot be written.
+pub fn store_band(file: &File, b: Band, run: &[u16]) -> std::io::Result<()> {
     let n = chroma_size(b.columns, b.count);
     let p = places_of(b);
-    let has_y = store_plane(fd, p.y, 0, 4 * n, run);
-    let has_cb = store_plane(fd, p.cb, 4 * n, n, run);
-    let has_cr = store_plane(fd, p.cr, 5 * n, n, run);
-    has_y & (has_cb & has_cr)
+    let has_y = store_plane(file, p.y, 0, 4 * n, run);
+    let has_cb = store_plane(file, p.cb, 4 * n, n, run);
+    let has_cr = store_plane(file, p.cr, 5 * n, n, run);
+    has_cr?;
+    has_cb?;
+    has_y
 }

@@ -15,8 +15,8 @@ pub struct Names {
     pub output: usize,
 }
 
-fn say_run(i: usize, found: usize, allowed: usize, for_what: &[u8]) {
-    say_refused(i, 9);
+fn say_run(rt: &HostRuntime, i: usize, found: usize, allowed: usize, for_what: &[u8]) {
+    say_refused(rt, i, 9);
     say(b": ");
     say_number(found);
     say(b" bytes, allowed ");
@@ -37,39 +37,39 @@ fn exactly(length: usize, size: usize) -> usize {
 }
 
 // How many pictures of so many bytes the file holds; 0, and says why, where it cannot be read or holds other pictures.
-pub fn pictures_in(i: usize, size: usize) -> usize {
-    if !is_readable(i) {
-        say_unread(i);
+pub fn pictures_in(rt: &HostRuntime, i: usize, size: usize) -> usize {
+    if !is_readable(rt, i) {
+        say_unread(rt, i);
         return 0;
     }
-    let length = file_length(i);
+    let length = file_length(rt, i);
     let pictures = exactly(length, size);
     if pictures == 0 {
-        say_run(i, length, size, b" for each picture");
+        say_run(rt, i, length, size, b" for each picture");
     }
     pictures
 }
 
 // Whether the file can be read and is as long as the base; says why where not.
-pub fn fits(i: usize, length: usize) -> bool {
-    if !is_readable(i) {
-        say_unread(i);
+pub fn fits(rt: &HostRuntime, i: usize, length: usize) -> bool {
+    if !is_readable(rt, i) {
+        say_unread(rt, i);
         return false;
     }
-    let found = file_length(i);
+    let found = file_length(rt, i);
     if found != length {
-        say_run(i, found, length, b", as the base has");
+        say_run(rt, i, found, length, b", as the base has");
         return false;
     }
     true
 }
 
 // Whether an enhancement is used: with disable_residual_flag at 1 it is ignored, whatever is named.
-pub fn is_enhanced(i: usize, disabled: u8) -> bool {
+pub fn is_enhanced(rt: &HostRuntime, i: usize, disabled: u8) -> bool {
     if disabled != 0 {
         return false;
     }
-    !is_word(i, b"none")
+    !is_word(rt, i, b"none")
 }
 
 pub fn wide(x: u8) -> usize
@@ -108,12 +108,12 @@ pub fn say_task(h: Header, pictures: usize, enhanced: bool) {
 }
 
 // Why the output cannot be written, by the error of the call that failed.
-pub fn say_unwritten(i: usize, error: i32) {
-    saying::say_unwritten(i, error, b"compose");
+pub fn say_unwritten(rt: &HostRuntime, i: usize, error: i32) {
+    saying::say_unwritten(rt, i, error, b"compose");
 }
 
 // A file that ended while it was read.
-pub fn say_ended(i: usize) {
-    say_argument(i);
+pub fn say_ended(rt: &HostRuntime, i: usize) {
+    say_argument(rt, i);
     say(b": cannot be read: it ended early\n");
 }

@@ -1,6 +1,9 @@
-// How far the work is, on standard error, where people look on.
-pub fn say_progress(done: usize, pictures: usize, left: u16) {
-    if libc::isatty(2) != 1 {
+// How far the work is, on standard error.
+use std::io::IsTerminal;
+
+// Says it where people look on.
+pub fn say_progress(rt: &HostRuntime, done: usize, pictures: usize, left: u16) {
+    if !rt.stderr().is_terminal() {
         return;
     }
     io::write_all(2, b"\rpictures done: ");
@@ -13,8 +16,8 @@ pub fn say_progress(done: usize, pictures: usize, left: u16) {
 }
 
 // What comes next begins on an empty line.
-pub fn end_progress() {
-    if libc::isatty(2) == 1 {
+pub fn end_progress(rt: &HostRuntime) {
+    if rt.stderr().is_terminal() {
         io::write_all(2, b"\r\x1b[K");
     }
 }

@@ -85,12 +85,20 @@ fn say_place(behind: usize, width: usize, above: usize) {
 }
 
 // Says the first sample of a component that is too large, where there is one.
-fn say_large(i: usize, b: Band, p: Part, component: u8, limit: u16, run: &[u16]) -> bool {
+fn say_large(
+    rt: &HostRuntime,
+    i: usize,
+    b: Band,
+    p: Part,
+    component: u8,
+    limit: u16,
+    run: &[u16],
+) -> bool {
     let k = first_large(limit, run, p.from, p.to);
     if p.to <= k {
         return false;
     }
-    say_refused(i, 11);
+    say_refused(rt, i, 11);
     say(b": picture ");
     say_number(b.picture);
     say(b", ");
@@ -105,19 +113,20 @@ fn say_large(i: usize, b: Band, p: Part, component: u8, limit: u16, run: &[u16])
 }
 
 // Says the first sample of the job that is too large in one file, where there is one.
-fn say_largest(i: usize, b: Band, j: Named, limit: u16, run: &[u16]) -> bool {
-    if say_large(i, b, named_part(b, 0, j), 0, limit, run) {
+fn say_largest(rt: &HostRuntime, i: usize, b: Band, j: Named, limit: u16, run: &[u16]) -> bool {
+    if say_large(rt, i, b, named_part(b, 0, j), 0, limit, run) {
         return true;
     }
-    if say_large(i, b, named_part(b, 1, j), 1, limit, run) {
+    if say_large(rt, i, b, named_part(b, 1, j), 1, limit, run) {
         return true;
     }
-    say_large(i, b, named_part(b, 2, j), 2, limit, run)
+    say_large(rt, i, b, named_part(b, 2, j), 2, limit, run)
 }
 
 // Why a job is refused. No number but 11 can come of files whose lengths were tested and jobs that name the band's
 // own row pairs.
 pub fn say_sample(
+    rt: &HostRuntime,
     names: Names,
     b: Band,
     h: Header,
@@ -128,11 +137,11 @@ pub fn say_sample(
 ) {
     let limit = if h.bl == 0 { 256 } else { 1024 };
     if number != 11 {
-        say_refused(names.base, number);
+        say_refused(rt, names.base, number);
         say_advice(number);
         return;
     }
-    if !say_largest(names.base, b, j, limit, base) {
-        say_largest(names.enhancement, b, j, limit, enhancement);
+    if !say_largest(rt, names.base, b, j, limit, base) {
+        say_largest(rt, names.enhancement, b, j, limit, enhancement);
     }
 }

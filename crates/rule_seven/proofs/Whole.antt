@@ -1,8 +1,12 @@
--- A plan by its components, with each of which the header is tested. Assumes nothing.
+-- A plan by its components, with each of which the header is tested, and a component with too many pieces. Assumes nothing.
 use mathlib.Core.Path.{◌≡◌, refl}
 use mathlib.Core.Bool.{Bool, true, false, ◌&&◌}
+use Prim.Native.Nat.{ℕ, ◌<◌}
+use borrow.Author.Tests.{lt-leb}
+use Rattle.plan.specs.declared.Header.{Header}
+use Rattle.plan.specs.declared.Component.{Component}
 use Rattle.plan.specs.declared.Plan.{Plan}
-use Rattle.plan.specs.Ranges.{header_fits}
+use Rattle.plan.specs.Ranges.{most_n, header_fits}
 use Rattle.plan.specs.Rule7.{usable, component_fits, fitting}
 
 pub each : (p : Plan) → let h = p.header in (usable 0 h p.y && (usable 1 h p.cb && usable 2 h p.cr)) ≡ fitting p
@@ -12,3 +16,7 @@ each p = once (header_fits p.header) (component_fits 0 p.header p.y) (component_
     once : (h y cb cr : Bool) → ((h && y) && ((h && cb) && (h && cr))) ≡ (h && (y && (cb && cr)))
     once true y cb cr = refl
     once false y cb cr = refl
+
+pub too_many : (k : ℕ) (h : Header) (c : Component) → header_fits h ≡ true → most_n < c.n → usable k h c ≡ false
+unfolding component_fits
+too_many k h c passed more = rw (passed, lt-leb c.n most_n more)

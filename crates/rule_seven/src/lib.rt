@@ -18,6 +18,7 @@ use ranges::nlq_fits;
 // Whether component k of a plan can be computed with, for whoever is handed a component alone. Its pieces are read where
 // they lie: a component is large, and to hand it on is to copy it. Pieces that are used, and those that are not, are two
 // loops whose turns go by n: one loop over all places would be unrolled, and the array taken apart byte by byte.
+#[tactic(auto, using(crate::proofs::Whole::too_many))]
 pub fn is_usable(k: usize, h: Header, c: Component) -> bool
     ensures { result ≡ usable k h c }
 {

@@ -31,9 +31,9 @@ pub fn say_number(n: usize) {
 }
 
 // The word that argument i is.
-pub fn say_argument(i: usize) {
+pub fn say_argument(rt: &HostRuntime, i: usize) {
     let mut word = io::large_buffer();
-    let n = os::arg(i, &mut word);
+    let n = files::argument(rt, i, &mut word);
     say(&word[..n]);
 }
 

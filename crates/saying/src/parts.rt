@@ -44,8 +44,8 @@ pub fn block_of(bytes: &[u8]) -> &[u8] {
 }
 
 // How many bytes stand before these, the last ones, in the file that argument i names.
-pub fn bytes_before(i: usize, bytes: &[u8]) -> usize {
-    let length = files::file_length(i);
+pub fn bytes_before(rt: &HostRuntime, i: usize, bytes: &[u8]) -> usize {
+    let length = files::file_length(rt, i);
     if length < bytes.len() {
         0
     } else {

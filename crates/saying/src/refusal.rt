@@ -60,9 +60,16 @@ fn say_found(number: u8, place: usize, field: Name, bytes: &[u8], before: usize)
 
 // A refusal as reading answers it. The bytes are the last ones of the file that argument i names; places are said as
 // the file's.
-pub fn say_refusal(i: usize, number: u8, place: usize, field: Name, bytes: &[u8]) {
-    let before = bytes_before(i, bytes);
-    say_refused(i, number);
+pub fn say_refusal(
+    rt: &HostRuntime,
+    i: usize,
+    number: u8,
+    place: usize,
+    field: Name,
+    bytes: &[u8],
+) {
+    let before = bytes_before(rt, i, bytes);
+    say_refused(rt, i, number);
     if number != 1 {
         say(b" at byte ");
         say_place(place, before);
@@ -83,6 +90,7 @@ pub fn refused_at(number: u8, place: usize, field: Name) -> usize {
 // A refusal of a block that was made of the text that argument i names, with a line of the text in place of the byte.
 // Who wrote the text is told, so no advice is given.
 pub fn say_line_refusal(
+    rt: &HostRuntime,
     i: usize,
     line: usize,
     number: u8,
@@ -90,7 +98,7 @@ pub fn say_line_refusal(
     field: Name,
     bytes: &[u8],
 ) {
-    say_argument(i);
+    say_argument(rt, i);
     say(b": line ");
     say_number(line);
     say_number_and_name(number);

@@ -38,8 +38,8 @@ pub(crate) fn say_number_and_name(number: u8) {
 }
 
 // The begin of the line about a refused file, which argument i names: what was found comes next, and then the advice.
-pub fn say_refused(i: usize, number: u8) {
-    say_argument(i);
+pub fn say_refused(rt: &HostRuntime, i: usize, number: u8) {
+    say_argument(rt, i);
     say_number_and_name(number);
 }
 

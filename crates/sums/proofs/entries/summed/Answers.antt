@@ -1,0 +1,16 @@
+use native.Mathlib.Omega.{arith}
+use Rattle.sums.specs.inner.Sums.{summed}
+use Rattle.sums.proofs.entries.summed.Goals as goal
+
+-- `sums::entries::summed` meets its contract. Assumes nothing.
+pub returns : goal.returns
+unfolding summed
+returns c = c.sum_of.ensures
+
+pub overflow_cast-s : goal.overflow_cast-s
+overflow_cast-s c =
+    omega (arith, c.shared_slice_known-3-1.given c.args.i)
+
+pub overflow_cast-e : goal.overflow_cast-e
+overflow_cast-e c =
+    omega (arith, c.shared_slice_known-4-1.given c.args.i)

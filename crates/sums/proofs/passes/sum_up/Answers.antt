@@ -1,0 +1,34 @@
+use Prim.Native.Nat.{◌-◌}
+use native.Mathlib.Omega.{arith}
+use Rattle.runs.proofs.Painting.{paint_none, paint_more, paint_all}
+use Rattle.spans.proofs.Fours.{paint_begun, paint_turn, paint_from}
+use Rattle.sums.specs.inner.Sums.{summed}
+use Rattle.sums.proofs.passes.sum_up.Goals as goal
+
+pub loop-t-preserved : goal.loop-t-preserved
+loop-t-preserved c =
+    (omega arith, paint_turn _ c.loop-t.invariant.1 (omega arith) (omega arith) c.sum_four.ensures)
+
+pub loop-i-preserved : goal.loop-i-preserved
+loop-i-preserved c =
+    (omega arith, paint_more c.loop-i.invariant.1 (omega arith) c.summed.ensures)
+
+pub returns : goal.returns
+returns c =
+    paint_all _ (paint_from c.loop-t.invariant.1 (omega arith) c.loop-i.invariant.1) (omega arith)
+
+pub loop-t-init : goal.loop-t-init
+loop-t-init c =
+    (omega arith, paint_begun _ _ _ _ (omega arith))
+
+pub sum_four-requires : goal.sum_four-requires
+sum_four-requires c =
+    (omega arith, omega arith, omega arith)
+
+pub loop-i-init : goal.loop-i-init
+loop-i-init c =
+    (omega arith, paint_none _ _ _)
+
+pub summed-requires : goal.summed-requires
+summed-requires c =
+    (omega arith, omega arith)
