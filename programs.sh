@@ -116,10 +116,12 @@ start() {
 
 # Room for what a program says. A signal ends the program too, and runs `leave` of the script, which tidies up.
 asking=no
+links=0                                 # how many names have a link
+aside=                                  # what is written in the place of the output, if anything is
 open_room() {
   room=$(mktemp -d)
   said=$room/said
-  trap 'rm -rf "$room"' EXIT
+  trap '[ -z "$aside" ] || rm -f -- "$aside" "$aside.part"; rm -rf "$room"' EXIT
   trap 'stopped 129' HUP
   trap 'stopped 130' INT
   trap 'stopped 143' TERM
@@ -146,6 +148,7 @@ ask() {
   start "$@" <&3 3<&- >"$said" &
   wait "$!" 2>/dev/null || ended=$?               # the shell's own word for a killed program is not wanted
   asking=no
+  [ ! -f "$room/names" ] || { LC_ALL=C sed -f "$room/names" "$said" >"$room/right" && mv "$room/right" "$said"; }
 }
 
 # Whether the program's last line is this.
@@ -193,4 +196,54 @@ find_output() {
 # Whether something of this name stands there, a link that leads nowhere too.
 is_there() {
   [ -e "$1" ] || [ -L "$1" ]
+}
+
+# The programs can open files whose names are text (UTF-8), as the library that does it for them. A file of another name
+# is handed over under one that is, and `ask` puts the caller's name back into what the program says.
+is_text() {
+  printf '%s' "$1" | iconv -f UTF-8 -t UTF-8 >/dev/null 2>&1
+}
+
+# Sets $word to a link to NAME.
+link_to() {
+  links=$((links + 1))
+  word=$room/word.$links.link
+  case $1 in
+  /*) ln -s -- "$1" "$word" ;;
+  *) ln -s -- "$PWD/$1" "$word" ;;
+  esac
+}
+
+# What the program calls $word is NAME.
+is_called() {
+  {
+    printf 's|%s|' "$word"
+    printf '%s' "$1" | LC_ALL=C sed -e 's/[\\&|]/\\&/g' -e '$!s/$/\\/'
+    printf '|g\n'
+  } >>"$room/names"
+}
+
+# Sets $word to NAME of a file to be read, or to what stands for it.
+as_text() {
+  word=$1
+  ! is_text "$1" || return 0
+  link_to "$1"
+  is_called "$1"
+}
+
+# Sets $word to NAME of a file to be written, or to what stands for it: another in its folder, which `put_in_place` moves
+# to NAME. Where NAME.part is in the way, this one's is so too.
+as_text_out() {
+  word=$1
+  ! is_text "$1" || return 0
+  folder=$(dirname -- "$1" && echo .)
+  link_to "${folder%??}"
+  word=$word/$(basename "$room").out
+  is_called "$1"
+  aside=$word
+  ! is_there "$1.part" || : >"$aside.part"
+}
+
+put_in_place() {
+  [ -z "$aside" ] || mv -f -- "$aside" "$1"
 }

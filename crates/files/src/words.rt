@@ -56,7 +56,8 @@ pub fn is_word(rt: &HostRuntime, i: usize, text: &[u8]) -> bool {
     same(&word[..n], text)
 }
 
-// The path that a word is, which has to be text.
+// The path that a word is. std's paths are text, so a word of other bytes names no file here; programs.sh has links for
+// such names.
 pub(crate) fn path_of(word: &[u8]) -> std::io::Result<&str> {
     match from_utf8(word) {
         Ok(path) => Ok(path),
