@@ -40,43 +40,43 @@ returns-then-not-numbers_fit c =
     let a = c.args in
     no_numbers a.plan a.first a.last a.raised1.now a.raised2.now a.cut a.marks.now a.base.now a.enhancement.now a.output.now (sym c.numbers_fit.ensures ∙ c.if-not-numbers_fit.true)
 
-passed : (e : Else-not-numbers_fit) → let st : Start = search rules in
+passed : (e : Else-not-numbers_fit) → let st : Start = e.before.before.before.before.before.before.before in
     PlanReady st.args.plan
-passed e = let n : After-numbers_fit = search rules in
+passed e = let n : After-numbers_fit = e.before in
     sym n.numbers_fit.ensures ∙ e.if-not-numbers_fit.false
 
-tested : (c : After-runs_fit) → let st : Start = search rules in
+tested : (c : After-runs_fit) → let st : Start = c.before.before.before.before.before.before.before.before.before in
     (c.pairs_fit.result && c.runs_fit.result) ≡ Pictures st
 tested c =
     ap₂ ◌&&◌ c.pairs_fit.ensures c.runs_fit.ensures
 
 pub returns-then-not-pairs_fit-runs_fit : goal.returns-then-not-pairs_fit-runs_fit
 returns-then-not-pairs_fit-runs_fit c =
-    let e : Else-not-numbers_fit = search rules in
-    let r : After-runs_fit = search rules in
+    let e : Else-not-numbers_fit = c.before.before.before in
+    let r : After-runs_fit = c.before in
     let a = c.args in
     no_pictures a.plan a.first a.last a.raised1.now a.raised2.now a.cut a.marks.now a.base.now a.enhancement.now a.output.now (passed e) (sym (tested r) ∙ c.if-not-pairs_fit-runs_fit.true)
 
-whole : (c : Else-not-pairs_fit-runs_fit) → let st : Start = search rules in
+whole : (c : Else-not-pairs_fit-runs_fit) → let st : Start = c.before.before.before.before.before.before.before.before.before.before in
     Pictures st ≡ true
-whole c = let r : After-runs_fit = search rules in
+whole c = let r : After-runs_fit = c.before in
     sym (tested r) ∙ c.if-not-pairs_fit-runs_fit.false
 
 pub with_cb-requires : goal.with_cb-requires
 with_cb-requires c =
-    let e : Else-not-numbers_fit = search rules in
-    let w : Else-not-pairs_fit-runs_fit = search rules in
+    let e : Else-not-numbers_fit = c.before.before.before.before.before in
+    let w : Else-not-pairs_fit-runs_fit = c.before.before in
     let t = both (pairs_fit c.args.plan.header c.args.first c.args.last) _ (whole w) in
     record { ready = passed e; format = c.format_of-f.ensures; pairs = t.0; runs = t.1 }
 
 pub returns : goal.returns
 returns c =
-    let e : Else-not-numbers_fit = search rules in
-    let w : Else-not-pairs_fit-runs_fit = search rules in
+    let e : Else-not-numbers_fit = c.before.before.before.before.before.before.before.before in
+    let w : Else-not-pairs_fit-runs_fit = c.before.before.before.before.before in
     let a = c.args in
     c.with_cb.ensures ∙ all_there a.plan a.first a.last a.raised1.now a.raised2.now a.cut a.marks.now a.base.now a.enhancement.now a.output.now (passed e) (whole w)
 
 pub format_of-f-requires : goal.format_of-f-requires
 format_of-f-requires c =
-    let e : Else-not-numbers_fit = search rules in
+    let e : Else-not-numbers_fit = c.before.before.before in
     passed e

@@ -30,7 +30,7 @@ made p codes order a b y cb cr e o f g h s t =
 
 pub returns : goal.returns
 returns c =
-    let st : Start = search rules in
+    let st : Start = c.before.before.before.before.before.before.before.before.before.before.before.before.before in
     made c.args.plan _ _ _ _ _ _ _ (all st) c.greater-order.ensures c.ends_of-y.ensures c.ends_of-blue.ensures c.ends_of-red.ensures c.highest_order.ensures c.highest_order-2.ensures
 
 pub highest_order-requires : goal.highest_order-requires
@@ -55,10 +55,10 @@ ends_of-red-requires c =
 
 pub overflow_shl-result : goal.overflow_shl-result
 overflow_shl-result c =
-    let st : Start = search rules in
+    let st : Start = c.before.before.before.before.before.before.before.before.before.before.before.before.before in
     omega (arith, shallow st)
 
 pub overflow_cast-result-2 : goal.overflow_cast-result-2
 overflow_cast-result-2 c =
-    let st : Start = search rules in
+    let st : Start = c.before.before.before.before.before.before.before.before.before.before.before.before.before in
     record { fits = omega (arith, all st, pow_mono {i = c.args.plan.header.bl + 8} {j = 10} (omega (arith, shallow st))) }

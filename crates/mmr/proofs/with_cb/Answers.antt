@@ -27,8 +27,8 @@ ready c =
 
 pub kinds_of-kinds1-requires : goal.kinds_of-kinds1-requires
 kinds_of-kinds1-requires c =
-    let st : Start = search rules in record { d_bound = ((ready_header c.args.plan c.requires.ready).shallow, few st); rows_copied = c.rows_of-rows1.ensures }
+    let st : Start = c.before.before.before.before.before.before.before.before.before in record { d_bound = ((ready_header c.args.plan c.requires.ready).shallow, few st); rows_copied = c.rows_of-rows1.ensures }
 
 pub with_cr-requires : goal.with_cr-requires
 with_cr-requires c =
-    let k : After-kinds_of-kinds1 = search rules in record { chroma_given = c.requires; ready_side = ready k }
+    let k : After-kinds_of-kinds1 = c.before.before.before.before in record { chroma_given = c.requires; ready_side = ready k }

@@ -19,13 +19,13 @@ use Rattle.mmr.proofs.with_cr.Goals.{After-kinds_of-kinds2, After-pivots_of-pivo
 use Rattle.mmr.proofs.with_cr.Goals as goal
 
 abbrev start : After-kinds_of-kinds2 → Start
-start c = search rules
+start c = c.before.before.before.before.before.before.before.before.before.before.before
 
 abbrev rows : After-kinds_of-kinds2 → After-rows_of-rows2
-rows c = search rules
+rows c = c.before.before
 
 abbrev pivots : After-kinds_of-kinds2 → After-pivots_of-pivots2
-pivots c = search rules
+pivots c = c.before.before.before
 
 few : (st : Start) → st.args.plan.cr.n ≤ most_n
 few st = leb-true _ most_n (cr_few st.args.plan st.requires.chroma_given.ready)
@@ -43,7 +43,7 @@ ready c =
     }
 
 abbrev before : After-planes_of-planes → After-kinds_of-kinds2
-before c = search rules
+before c = c.before.before
 
 planes_are : (c : After-planes_of-planes) → c.planes_of-planes.result ≡ planes (extent c.args.plan.header)
 planes_are c = c.planes_of-planes.ensures ∙ ap planes c.extent_of.ensures
@@ -63,14 +63,14 @@ at-planes m n h = let st = start (before m) in subst (λ (q : Planes). RowsGiven
 
 pub compose_rows-requires : goal.compose_rows-requires
 compose_rows-requires c =
-    let m : After-planes_of-planes = search rules in
+    let m : After-planes_of-planes = c.before.before.before.before in
     let r = before m in
     let g = rows_in c.requires.chroma_given in record { both_given = both-given c.requires.chroma_given _ _ _ _ (first_ready r) (second_ready r); rows_given = (at-planes m _ g.0, (at-planes m _ g.1.0, at-planes m _ g.1.1)) }
 
 pub returns : goal.returns
 unfolding chroma_painted
 returns c =
-    let m : After-planes_of-planes = search rules in
+    let m : After-planes_of-planes = c.before.before.before.before.before.before.before in
     let r = before m in
     let a = c.args in
     c.compose_rows.ensures
@@ -80,4 +80,4 @@ returns c =
 
 pub kinds_of-kinds2-requires : goal.kinds_of-kinds2-requires
 kinds_of-kinds2-requires c =
-    let st : Start = search rules in record { d_bound = ((ready_header c.args.plan c.requires.chroma_given.ready).shallow, few st); rows_copied = c.rows_of-rows2.ensures }
+    let st : Start = c.before.before.before.before.before.before.before.before.before.before in record { d_bound = ((ready_header c.args.plan c.requires.chroma_given.ready).shallow, few st); rows_copied = c.rows_of-rows2.ensures }

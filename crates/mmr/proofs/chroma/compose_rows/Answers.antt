@@ -15,10 +15,10 @@ use Rattle.mmr.proofs.chroma.compose_rows.Goals.{After-place_of-place, In-loop-k
 use Rattle.mmr.proofs.chroma.compose_rows.Goals as goal
 
 abbrev start : In-loop-k → Start
-start c = search rules
+start c = c.before.before.before.before.before.before
 
 abbrev inside : After-place_of-place → In-loop-k
-inside c = search rules
+inside c = c.before.before.before
 
 abbrev given : Start → Both
 given st = let a = st.args in both (side a.f.cb.n a.pivots1.now a.kinds1.now a.rows1.now) a.raised1.now (side a.f.cr.n a.pivots2.now a.kinds2.now a.rows2.now) a.raised2.now
@@ -36,14 +36,14 @@ at_place t n h = subst (λ (q : Place). PlaceGiven q n) (sym t.place_of-place.en
 
 pub compose_columns-requires : goal.compose_columns-requires
 compose_columns-requires c =
-    let t : After-place_of-place = search rules in
+    let t : After-place_of-place = c.before in
     let i = inside t in
     let g = c.requires in
     let written = subst (λ (n : ℕ). PlaceGiven (place_of c.args.p c.loop-k.k) n) (sym (as_long i)) (pair_place (pair i _ g.1.1.1)) in record { both_given = g.0; place_given = (at_place t _ (pair_place (pair i _ g.1.0)), (at_place t _ (pair_place (pair i _ g.1.1.0)), at_place t _ written)) }
 
 pub loop-k-preserved : goal.loop-k-preserved
 loop-k-preserved c =
-    let i : In-loop-k = search rules in
+    let i : In-loop-k = c.before.before in
     let st = start i in
     let a = c.args in
     let l = c.loop-k in
@@ -57,7 +57,7 @@ loop-k-preserved c =
 
 pub returns : goal.returns
 returns c =
-    let st : Start = search rules in
+    let st : Start = c.before.before.before.before.before.before in
     let a = c.args in
     let e : c.loop-k.k ≡ a.last = omega (arith, c.loop-k.invariant.1.0, c.loop-k-test) in
     c.loop-k.invariant.1.1 ∙ ap (λ (n : ℕ). painted (chroma_rows a.p a.first n a.marks.now) (plane_value a.f (given st) a.cut a.p a.base.now a.enhancement.now) a.output.now) e
@@ -68,7 +68,7 @@ loop-k-init c =
 
 pub place_of-place-requires : goal.place_of-place-requires
 place_of-place-requires c =
-    let i : In-loop-k = search rules in
+    let i : In-loop-k = c.before.before in
     pair i _ c.requires.rows_given.0
 
 pub overflow_add-k : goal.overflow_add-k

@@ -13,16 +13,16 @@ use Rattle.mmr.proofs.columns.compose_columns.Goals.{After-column_terms-ts, Afte
 use Rattle.mmr.proofs.columns.compose_columns.Goals as goal
 
 abbrev start : In-loop-i → Start
-start c = search rules
+start c = c.before.before.before.before.before
 
 abbrev terms : After-finished-u → After-column_terms-ts
-terms c = search rules
+terms c = c.before.before.before.before
 
 abbrev first : After-column_terms-ts → After-index_of-a
-first c = search rules
+first c = c.before.before.before.before.before.before
 
 abbrev second : After-column_terms-ts → After-index_of-b
-second c = search rules
+second c = c.before.before.before.before.before
 
 abbrev given : Start → Both
 given st = let a = st.args in both (side a.f.cb.n a.pivots1.now a.kinds1.now a.rows1.now) a.raised1.now (side a.f.cr.n a.pivots2.now a.kinds2.now a.rows2.now) a.raised2.now
@@ -47,51 +47,51 @@ cr_in : (c : In-loop-i) (n : ℕ) → PlaceGiven c.args.p n → c.args.p.cr + c.
 cr_in c n g = omega (arith, few c, g.inside)
 
 -- and so do the indices
-cb_at : (c : After-index_of-a) (n : ℕ) → let i : In-loop-i = search rules in
+cb_at : (c : After-index_of-a) (n : ℕ) → let i : In-loop-i = c.before in
     PlaceGiven c.args.p n → c.index_of-a.result < n
-cb_at c n g = let i : In-loop-i = search rules in
+cb_at c n g = let i : In-loop-i = c.before in
     omega (arith, c.index_of-a.ensures, cb_in i n g)
 
-cr_at : (c : After-index_of-b) (n : ℕ) → let i : In-loop-i = search rules in
+cr_at : (c : After-index_of-b) (n : ℕ) → let i : In-loop-i = c.before.before in
     PlaceGiven c.args.p n → c.index_of-b.result < n
-cr_at c n g = let i : In-loop-i = search rules in
+cr_at c n g = let i : In-loop-i = c.before.before in
     omega (arith, c.index_of-b.ensures, cr_in i n g)
 
 -- the pieces have places in the arrays
 cb_piece : (c : After-piece_of-p1) → c.piece_of-p1.result < piece_places
-cb_piece c = let i : In-loop-i = search rules in
+cb_piece c = let i : In-loop-i = c.before.before.before.before in
     let st = start i in piece_in (given st).cb c.requires.both_given.cb _ c.piece_of-p1.ensures.piece
 
 cr_piece : (c : After-piece_of-p2) → c.piece_of-p2.result < piece_places
-cr_piece c = let i : In-loop-i = search rules in
+cr_piece c = let i : In-loop-i = c.before.before.before.before.before.before in
     let st = start i in piece_in (given st).cr c.requires.both_given.cr _ c.piece_of-p2.ensures.piece
 
 pub finished-u-requires : goal.finished-u-requires
 finished-u-requires c =
-    let i : In-loop-i = search rules in
-    let t : After-column_terms-ts = search rules in
+    let i : In-loop-i = c.before.before.before.before.before.before.before.before.before.before in
+    let t : After-column_terms-ts = c.before.before.before in
     let st = start i in record { step_given = step_given c.requires.both_given.format (given st).cb c.requires.both_given.cb 2 _ _ refl c.column_terms-ts.ensures c.piece_of-p1.result; j_in_bounds = cb_at (first t) _ c.requires.place_given.1.0 }
 
 pub finished-v-requires : goal.finished-v-requires
 finished-v-requires c =
-    let i : In-loop-i = search rules in
-    let t : After-column_terms-ts = search rules in
+    let i : In-loop-i = c.before.before.before.before.before.before.before.before.before.before.before.before.before.before in
+    let t : After-column_terms-ts = c.before.before.before.before.before.before.before in
     let st = start i in record { step_given = step_given c.requires.both_given.format (given st).cr c.requires.both_given.cr 3 _ _ refl c.column_terms-ts.ensures c.piece_of-p2.result; j_in_bounds = cr_at (second t) _ c.requires.place_given.1.0 }
 
 -- what was finished is what belongs there
-cb_is : (c : After-finished-u) → let i : In-loop-i = search rules in
+cb_is : (c : After-finished-u) → let i : In-loop-i = c.before.before.before.before.before.before.before.before.before.before.before in
     let st = start i in c.finished-u.result ≡ value st (c.args.p.cb + c.loop-i.i)
 cb_is c =
-    let i : In-loop-i = search rules in
+    let i : In-loop-i = c.before.before.before.before.before.before.before.before.before.before.before in
     let st = start i in
     let a = c.args in
     c.finished-u.ensures
     ∙ at_cb a.f (given st) c.requires.both_given a.cut a.p a.base.now a.enhancement.now c.requires.place_given.0.apart c.loop-i.i (few i) _ c.column_terms-ts.ensures c.index_of-a.ensures c.piece_of-p1.ensures.piece
 
-cr_is : (c : After-finished-v) → let i : In-loop-i = search rules in
+cr_is : (c : After-finished-v) → let i : In-loop-i = c.before.before.before.before.before.before.before.before.before.before.before.before.before.before.before in
     let st = start i in c.finished-v.result ≡ value st (c.args.p.cr + c.loop-i.i)
 cr_is c =
-    let i : In-loop-i = search rules in
+    let i : In-loop-i = c.before.before.before.before.before.before.before.before.before.before.before.before.before.before.before in
     let st = start i in
     let a = c.args in
     c.finished-v.ensures
@@ -99,16 +99,16 @@ cr_is c =
 
 pub store_both-requires : goal.store_both-requires
 store_both-requires c =
-    let t : After-column_terms-ts = search rules in
+    let t : After-column_terms-ts = c.before.before.before.before.before.before.before.before.before in
     let g = c.requires.place_given.1.1 in
     let long = c.loop-i.invariant.1.1 in
     (omega (arith, cb_at (first t) _ g, long), omega (arith, cr_at (second t) _ g, long))
 
 pub loop-i-preserved : goal.loop-i-preserved
 loop-i-preserved c =
-    let i : In-loop-i = search rules in
-    let u : After-finished-u = search rules in
-    let v : After-finished-v = search rules in
+    let i : In-loop-i = c.before.before.before.before.before.before.before.before.before.before.before.before.before.before.before.before.before.before.before in
+    let u : After-finished-u = c.before.before.before.before.before.before.before.before in
+    let v : After-finished-v = c.before.before.before.before in
     let st = start i in
     let g = c.requires.place_given.1.1 in
     let l = c.loop-i in (
@@ -122,7 +122,7 @@ loop-i-preserved c =
 
 pub returns : goal.returns
 returns c =
-    let st : Start = search rules in
+    let st : Start = c.before.before.before.before.before in
     let e : c.loop-i.i ≡ c.args.p.columns = omega (arith, c.loop-i.invariant.0, c.loop-i-test) in
     c.loop-i.invariant.1.0 ∙ ap (λ (n : ℕ). painted (two_rows c.args.p n) (value st) c.args.output.now) e
 
@@ -132,78 +132,78 @@ loop-i-init c =
 
 pub index_of-a-requires : goal.index_of-a-requires
 index_of-a-requires c =
-    let i : In-loop-i = search rules in
+    let i : In-loop-i = c in
     cb_in i _ c.requires.place_given.0
 
 pub index_of-b-requires : goal.index_of-b-requires
 index_of-b-requires c =
-    let i : In-loop-i = search rules in
+    let i : In-loop-i = c.before in
     cr_in i _ c.requires.place_given.0
 
 pub offset_bounds-base-a : goal.offset_bounds-base-a
 offset_bounds-base-a c =
-    let i : In-loop-i = search rules in
-    let m : After-index_of-a = search rules in
+    let i : In-loop-i = c.before.before in
+    let m : After-index_of-a = c.before in
     omega (arith, cb_at m _ c.requires.place_given.0, short (start i))
 
 pub bounds-base-a : goal.bounds-base-a
 bounds-base-a c =
-    let m : After-index_of-a = search rules in
+    let m : After-index_of-a = c.before.before in
     cb_at m _ c.requires.place_given.0
 
 pub offset_bounds-base-b : goal.offset_bounds-base-b
 offset_bounds-base-b c =
-    let i : In-loop-i = search rules in
-    let n : After-index_of-b = search rules in
+    let i : In-loop-i = c.before.before.before.before in
+    let n : After-index_of-b = c.before.before in
     omega (arith, cr_at n _ c.requires.place_given.0, short (start i))
 
 pub bounds-base-b : goal.bounds-base-b
 bounds-base-b c =
-    let n : After-index_of-b = search rules in
+    let n : After-index_of-b = c.before.before.before in
     cr_at n _ c.requires.place_given.0
 
 pub column_terms-ts-requires : goal.column_terms-ts-requires
 column_terms-ts-requires c =
-    let i : In-loop-i = search rules in record { format_given = c.requires.both_given.format; place_given = c.requires.place_given.0; i_lt_columns = few i }
+    let i : In-loop-i = c.before.before.before.before.before.before in record { format_given = c.requires.both_given.format; place_given = c.requires.place_given.0; i_lt_columns = few i }
 
 pub bounds-kinds1-p1 : goal.bounds-kinds1-p1
 bounds-kinds1-p1 c =
-    let p : After-piece_of-p1 = search rules in
+    let p : After-piece_of-p1 = c.before.before.before.before in
     omega (arith, cb_piece p)
 
 pub offset_bounds-rows1-p1 : goal.offset_bounds-rows1-p1
 offset_bounds-rows1-p1 c =
-    let p : After-piece_of-p1 = search rules in
+    let p : After-piece_of-p1 = c.before.before.before.before.before in
     omega (arith, cb_piece p)
 
 pub bounds-rows1-p1 : goal.bounds-rows1-p1
 bounds-rows1-p1 c =
-    let p : After-piece_of-p1 = search rules in
+    let p : After-piece_of-p1 = c.before.before.before.before.before in
     omega (arith, cb_piece p)
 
 pub bounds-kinds2-p2 : goal.bounds-kinds2-p2
 bounds-kinds2-p2 c =
-    let p : After-piece_of-p2 = search rules in
+    let p : After-piece_of-p2 = c.before.before.before.before.before.before in
     omega (arith, cr_piece p)
 
 pub offset_bounds-rows2-p2 : goal.offset_bounds-rows2-p2
 offset_bounds-rows2-p2 c =
-    let p : After-piece_of-p2 = search rules in
+    let p : After-piece_of-p2 = c.before.before.before.before.before.before.before in
     omega (arith, cr_piece p)
 
 pub bounds-rows2-p2 : goal.bounds-rows2-p2
 bounds-rows2-p2 c =
-    let p : After-piece_of-p2 = search rules in
+    let p : After-piece_of-p2 = c.before.before.before.before.before.before.before in
     omega (arith, cr_piece p)
 
 pub overflow_add-i : goal.overflow_add-i
 overflow_add-i c =
-    let i : In-loop-i = search rules in
+    let i : In-loop-i = c.before.before.before.before.before.before.before.before.before.before.before.before.before.before.before.before.before.before.before in
     omega (arith, cb_in i _ c.requires.place_given.0, short (start i))
 
 pub loop-i-smaller : goal.loop-i-smaller
 loop-i-smaller c =
-    let i : In-loop-i = search rules in
+    let i : In-loop-i = c.before.before.before.before.before.before.before.before.before.before.before.before.before.before.before.before.before.before.before in
     omega (arith, few i)
 
 pub shape_of-output : goal.shape_of-output

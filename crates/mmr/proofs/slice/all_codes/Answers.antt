@@ -14,7 +14,7 @@ few st = le_trans (le_of_eq st.requires.format_given.all_codes) (pow_mono {j = 1
 
 pub loop-s-preserved : goal.loop-s-preserved
 loop-s-preserved c =
-    let st : Start = search rules in
+    let st : Start = c.before.before.before in
     (omega arith, fill_more c.loop-s.invariant.1 (omega (arith, few st)) c.slice_at.ensures)
 
 pub returns : goal.returns
@@ -27,15 +27,15 @@ loop-s-init c =
 
 pub offset_bounds-table-s : goal.offset_bounds-table-s
 offset_bounds-table-s c =
-    let st : Start = search rules in
+    let st : Start = c.before.before.before in
     omega (arith, few st)
 
 pub bounds-table-s : goal.bounds-table-s
 bounds-table-s c =
-    let st : Start = search rules in
+    let st : Start = c.before.before.before in
     omega (arith, few st, c.loop-s.invariant.1.long)
 
 pub overflow_add-s : goal.overflow_add-s
 overflow_add-s c =
-    let st : Start = search rules in
+    let st : Start = c.before.before.before in
     omega (arith, few st)

@@ -12,13 +12,13 @@ use Rattle.mmr.proofs.slice.slice_of.Goals.{After-kinds_of-kinds, After-pivots_o
 use Rattle.mmr.proofs.slice.slice_of.Goals as goal
 
 abbrev start : After-kinds_of-kinds → Start
-start c = search rules
+start c = c.before.before.before.before.before
 
 abbrev rows : After-kinds_of-kinds → After-rows_of-rows
-rows c = search rules
+rows c = c.before.before
 
 abbrev pivots : After-kinds_of-kinds → After-pivots_of-pivots
-pivots c = search rules
+pivots c = c.before.before.before
 
 few : (st : Start) → st.args.c.n ≤ most_n
 few st = leb-true _ most_n st.requires.few
@@ -39,14 +39,14 @@ ready c =
 
 pub all_codes-requires : goal.all_codes-requires
 all_codes-requires c =
-    let r : After-kinds_of-kinds = search rules in record { format_given = c.requires.format; side_given = ready_given c.args.f.d c.args.c (made r) (ready r) c.requires.shallow }
+    let r : After-kinds_of-kinds = c.before.before.before.before in record { format_given = c.requires.format; side_given = ready_given c.args.f.d c.args.c (made r) (ready r) c.requires.shallow }
 
 pub returns : goal.returns
 returns c =
-    let r : After-kinds_of-kinds = search rules in
+    let r : After-kinds_of-kinds = c.before.before.before.before.before in
     let a = c.args in
     c.all_codes.ensures ∙ slice_ready a.f a.c (made r) a.cr (ready r) c.requires.highest
 
 pub kinds_of-kinds-requires : goal.kinds_of-kinds-requires
 kinds_of-kinds-requires c =
-    let st : Start = search rules in record { d_bound = (c.requires.shallow, few st); rows_copied = c.rows_of-rows.ensures }
+    let st : Start = c.before.before.before.before in record { d_bound = (c.requires.shallow, few st); rows_copied = c.rows_of-rows.ensures }
