@@ -1,11 +1,10 @@
 -- `mmr::ready::kind_of` meets its contract. Assumes nothing.
-use borrow.Author.Rules.{rules}
 use borrow.Author.Tests.{ne_eqb}
 use mathlib.Core.Path.{◌≡◌, refl, ap, ap₂, ◌∙◌}
 use mathlib.Core.Bool.{Bool, true, false, cond}
 use Prim.Native.Nat.{ℕ}
 use lib.Dec.{eqb}
-use Rattle.mmr.specs.inner.Apart.{narrow_most, wide_most}
+use Rattle.mmr.specs.inner.Apart.{narrow_most}
 use Rattle.mmr.specs.inner.Steps.{polynomial_kind, narrow_kind, wide_kind}
 use Rattle.mmr.specs.inner.Ready.{row_within, no_kind, kind_by}
 use Rattle.mmr.proofs.ready.kind_of.Goals.{After-coefficients_used-used, After-row_within-narrow, After-row_within-wide, After-wide_most, Start}

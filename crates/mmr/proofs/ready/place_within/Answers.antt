@@ -3,7 +3,6 @@ use mathlib.Core.Path.{◌∙◌}
 use Prim.Native.Nat.{◌^◌}
 use lib.IntN.{pos, neg_ℤ, +ℤ_idl}
 use mir.Facts.{to_z-of_z}
-use borrow.Author.Rules.{rules}
 use Rattle.words.proofs.Holding.{Holds, number, literal, sub, sub_asked}
 use Rattle.plan.proofs.Testing.{zero_test}
 use Rattle.mmr.proofs.Within.{between_limits}

@@ -1,8 +1,7 @@
 -- `mmr::step::polynomial_step` meets its contract: every number on the way is a word that holds it, within a bound. Assumes nothing.
-use borrow.Author.Rules.{rules}
 use mathlib.Core.Path.{ap, ◌∙◌}
 use Prim.Native.Nat.{ℕ, ◌^◌}
-use lib.IntN.{ℤ, pos, ◌+ℤ◌, ◌*ℤ◌}
+use lib.IntN.{pos, ◌+ℤ◌, ◌*ℤ◌}
 use mir.Syntax.{w64}
 use mir.Val.{of_z}
 use Rattle.words.proofs.Holding.{Holds, bounded, number, literal, add, add_asked, mul, mul_asked}
