@@ -41,25 +41,45 @@ about() {
   ' - "$repository/docs/TIMES.md"
 }
 
-# Whether the program is there, passed its own run (then rt keeps a stamp), and no source is newer, as after a pull.
+# Whether the program is there, passed its own run (then a stamp is kept), and nothing of crates/ is newer, as after a pull.
 is_built() {
-  program=$repository/target/bin/$1
-  [ -x "$program" ] && [ -f "$repository/target/stamp/$1" ] &&
-    [ -z "$(find "$repository/crates" \( -name '*.rt' -o -name '*.antt' \) -newer "$program" | head -n 1)" ]
+  program=$repository/crates/$1/out/$1
+  stamp=$repository/target/stamp/$1
+  [ -x "$program" ] && [ -f "$stamp" ] && [ -z "$(find "$program" -newer "$stamp")" ] &&
+    [ -z "$(find "$repository/crates" -name out -prune -o \( -name '*.rt' -o -name '*.antt' \) -newer "$stamp" -print |
+      head -n 1)" ]
 }
 
-# A line for each crate that rt says is proved, as it says so.
+# A line for each crate that rt has proved. Those that were proved before it passes over.
 count_proved() {
   proved=0
+  crate=
   while IFS= read -r line; do
     case $line in
-    "rt: "*" proved ("*)
+    "crate "*": modules "*)
+      crate=${line#crate }
+      crate=${crate%%:*}
+      ;;
+    "logic=proved "*)
       proved=$((proved + 1))
-      echo "$me: $proved of $1, ${line#rt: }" >&2
+      echo "$me: $proved of $1, $crate proved" >&2
       ;;
     esac
   done
 }
+
+# The program's own run, on the words and files beside its sources: whether it says what stands there.
+passes() (
+  crate=$repository/crates/$1
+  folder=$(mktemp -d)
+  trap 'rm -rf "$folder"' EXIT
+  mkdir "$folder/data"
+  cp -R "$crate/data/." "$folder/data"
+  program=$crate/out/$1
+  set --
+  while IFS= read -r word; do set -- "$@" "$word"; done <"$crate/args"
+  (cd "$folder/data" && "$program" "$@" </dev/null >"$folder/said") && cmp -s "$folder/said" "$crate/stdout"
+)
 
 # Proves NAME and all that it stands on, and builds it. rt proves no crate twice whose files are as they were.
 prove() {
@@ -67,26 +87,23 @@ prove() {
   count=$(printf '%s\n' "$crates" | wc -l)
   time=$(printf '%s\n' "$crates" | about)
   echo "$me: $1 is not built: proving the $count crates that it is made of, about $time on two processors" >&2
-  mkdir -p "$repository/target"
+  mkdir -p "$repository/target/stamp"
   log=$repository/target/$1.check
-  { (cd "$repository" && rt check "$1" 2>&1) && echo built || echo "not built"; } |
+  { (cd "$repository/crates/$1" && rt run 2>&1) && echo && echo built || echo "not built"; } |
     tee "$log" | count_proved "$count"
   [ "$(tail -n 1 "$log")" = built ] || {
     tail -n 20 "$log" >&2
     fail "$me: $1 could not be proved and built; $log has what rt says"
   }
-  touch "$repository/target/bin/$1"     # rt leaves it as it is where only the times of its sources are new
+  passes "$1" || fail "$me: $1 does not say what crates/$1/stdout has"
+  touch "$repository/target/stamp/$1"
 }
 
 # Sees that NAME can be started. Where $SINGKHAROP_PROGRAMS names a folder its programs are taken, and nothing is built.
 ready() {
   [ -z "${SINGKHAROP_PROGRAMS:-}" ] || return 0
-  command -v rt >/dev/null || fail "$me: the Rattle kit (rt) is not here, which proves and starts the programs"
+  command -v rt >/dev/null || fail "$me: the Rattle kit (rt) is not here, which proves and builds the programs"
   is_built "$1" || prove "$1"
-  # the kit's own loader and C library, as 'rt check' runs programs; on another processor than x86-64 its emulator
-  tools=$(cd "$(dirname "$(rt doc)")/.." && pwd -P)/on/$(uname -m)/toolchain
-  emulator=$tools/bin/qemu-x86_64
-  [ -x "$emulator" ] || emulator=
 }
 
 # Becomes the program NAME with these words; `ready NAME` goes before.
@@ -94,8 +111,7 @@ start() {
   name=$1
   shift
   [ -z "${SINGKHAROP_PROGRAMS:-}" ] || exec "$SINGKHAROP_PROGRAMS/$name" "$@"
-  exec ${emulator:+"$emulator"} "$tools/lib/ld-linux-x86-64.so.2" --library-path "$tools/lib" \
-    "$repository/target/bin/$name" "$@"
+  exec "$repository/crates/$name/out/$name" "$@"
 }
 
 # Room for what a program says. A signal ends the program too, and runs `leave` of the script, which tidies up.

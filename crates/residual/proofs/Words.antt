@@ -21,4 +21,4 @@ within {d = d} h l = le_trans h (pow_mono {i = d + 1} {j = 33} (omega arith))
 
 -- a call's result, as the next one reads it
 pub read_back : (z : ℤ) → mag z < 2 ^ 63 → to_z w64 (of_z w64 z) ≡ z
-read_back z h = to_z-of_z (record { sfits = h })
+read_back z h = to_z-of_z {w = w64} {z = z} (record { sfits = h })

@@ -1,10 +1,10 @@
 -- What acceptance gives: no rule of the list is met, and so each run and each sample is as composing needs it. Assumes nothing.
-use mathlib.Core.Path.{◌≡◌, refl, sym, ap, ◌∙◌}
-use mathlib.Core.Bool.{Bool, true, false, not, ◌&&◌, ◌||◌}
-use mathlib.Core.List.{List, [], ◌∷◌, ◌++◌}
+use mathlib.Core.Path.{◌≡◌, refl}
+use mathlib.Core.Bool.{Bool, true, false, not}
+use mathlib.Core.List.{List, ◌∷◌, ◌++◌}
 use Prim.Native.Nat.{ℕ, ◌+◌, ◌^◌, ◌≤◌, ◌<◌}
 use native.Mathlib.Omega.{arith}
-use lib.Dec.{eqb, ltb}
+use lib.Dec.{eqb}
 use lib.ListN.{length, get_or}
 use borrow.Author.Tests.{eqb-true, ltb-false, leb-false}
 use Rattle.runs.specs.Runs.{some, at_least}
@@ -19,7 +19,6 @@ use Rattle.plan.specs.declared.Plan.{Plan}
 use Rattle.plan.specs.Rule7.{fitting}
 use Rattle.plan.specs.Tables.{table_size, has_mmr}
 use Rattle.plan.specs.inner.Facts.{HeaderFacts}
-use Rattle.plan.proofs.Facts.{header_facts}
 use Rattle.rules.specs.Rules.{Source, by_plan, by_table, Given, extent, used, wrong_length, wrong_pairs, wrong_sample, rows_rules, source_rules, rules, refusal}
 
 -- rules 9 and 10 are not met

@@ -1,4 +1,5 @@
-// Row jobs of both kinds, the filling of a table, and the writer, under names that a C harness can link, for measuring only.
+// Row jobs of both kinds, the filling of a table, and the writer, as a C harness calls them, for measuring only. `speed_c`
+// exports them.
 #![tactic(auto)]
 
 ghost use Rattle.std.specs.Prelude.{◌≡◌, length};
@@ -12,8 +13,7 @@ use plan::Plan;
 use table_jobs::compose_table_job;
 
 // 0 where the job is done, else the refusal's number.
-#[unsafe(no_mangle)]
-pub extern "C" fn speed_job(
+pub fn speed_job(
     plan: Plan,
     open_ticket: u32,
     ticket: u32,
@@ -42,8 +42,7 @@ pub extern "C" fn speed_job(
 }
 
 // The same of a job that is lent a table.
-#[unsafe(no_mangle)]
-pub extern "C" fn speed_table_job(
+pub fn speed_table_job(
     plan: Plan,
     table: &[u16],
     open_ticket: u32,
@@ -74,8 +73,7 @@ pub extern "C" fn speed_table_job(
 }
 
 // 0 where the table is filled, else the refusal's number.
-#[unsafe(no_mangle)]
-pub extern "C" fn speed_fill(plan: Plan, table: &mut [u16]) -> u8
+pub fn speed_fill(plan: Plan, table: &mut [u16]) -> u8
     ensures answers { result ≡ (filling_answer plan (length table.old)).number }
     ensures writes { table.new ≡ table_after plan table.old }
 {
@@ -83,8 +81,7 @@ pub extern "C" fn speed_fill(plan: Plan, table: &mut [u16]) -> u8
 }
 
 // 0 where the block is written, else the refusal's number.
-#[unsafe(no_mangle)]
-pub extern "C" fn speed_write(plan: Plan, version: u16, out: &mut [u8]) -> u8
+pub fn speed_write(plan: Plan, version: u16, out: &mut [u8]) -> u8
     ensures answers { result ≡ (answer plan version (length out.old)).number }
     ensures writes { out.new ≡ written plan version out.old }
 {

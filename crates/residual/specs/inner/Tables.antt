@@ -1,5 +1,5 @@
 -- The inverse quantization (5.4.3.2) and the reconstruction (5.4.3.3) as tables; zeros where the header or the quantization cannot be computed with.
-use Rattle.std.specs.Prelude.{Bool, ◌&&◌, cond, List, ℕ, ◌-◌, ◌*◌, ◌^◌, pos, length, replicate}
+use Rattle.std.specs.Prelude.{◌&&◌, cond, List, ℕ, ◌-◌, ◌*◌, ◌^◌, pos, length, replicate}
 use Rattle.runs.specs.inner.Loops.{at}
 use Rattle.runs.specs.inner.Tables.{table, coded}
 use Rattle.standard.specs.Residual.{residual, reconstructed}

@@ -1,0 +1,14 @@
+use Prim.Native.Nat.{◌-◌, ◌≤◌}
+use mathlib.Core.Path.{◌≡◌}
+use lib.ListN.{length}
+use Rattle.runs.proofs.Painting.{PaintedFrom}
+use Rattle.sums.specs.inner.Sums.{added_up}
+use Rattle.rows.specs.inner.Rows.{part_places}
+use Rattle.rows.proofs.adding.add_up.Given as goal
+
+-- `rows::adding::add_up` meets its contract: the parts so far are painted, each summed and then lowered. Assumes nothing.
+abbrev pub invariant-loop-i : goal.invariant-loop-i
+invariant-loop-i l = (l.i ≤ l.n) × (length l.sums ≡ part_places) × PaintedFrom l.initial.i (added_up l.mapped l.raised l.cut l.base l.enhancement) l.initial.output l.i l.output
+
+abbrev pub decreases-loop-i : goal.decreases-loop-i
+decreases-loop-i l = l.n - l.i

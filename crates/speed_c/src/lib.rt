@@ -1,0 +1,89 @@
+// What `speed` has, under names that a C harness can link, for measuring only.
+#![tactic(auto)]
+
+ghost use Rattle.std.specs.Prelude.{◌≡◌, length};
+ghost use Rattle.filling.specs.Filling.{filling_answer, table_after};
+ghost use Rattle.jobs.specs.Jobs.{job, table_job, job_answer, output_after, marks_after};
+ghost use Rattle.writer.specs.Writing.{answer, written};
+
+use plan::Plan;
+
+// 0 where the job is done, else the refusal's number.
+#[unsafe(no_mangle)]
+pub extern "C" fn speed_job(
+    plan: Plan,
+    open_ticket: u32,
+    ticket: u32,
+    first: usize,
+    count: usize,
+    base: &[u16],
+    enhancement: &[u16],
+    output: &mut [u16],
+    marks: &mut [u8],
+) -> u8
+    ensures answers { result ≡ (job_answer (job plan open_ticket ticket first count base.now enhancement.now) output.old marks.old).number }
+    ensures writes { output.new ≡ output_after (job plan open_ticket ticket first count base.now enhancement.now) output.old marks.old }
+    ensures marking { marks.new ≡ marks_after (job plan open_ticket ticket first count base.now enhancement.now) output.old marks.old }
+{
+    speed::speed_job(
+        plan,
+        open_ticket,
+        ticket,
+        first,
+        count,
+        base,
+        enhancement,
+        output,
+        marks,
+    )
+}
+
+// The same of a job that is lent a table.
+#[unsafe(no_mangle)]
+pub extern "C" fn speed_table_job(
+    plan: Plan,
+    table: &[u16],
+    open_ticket: u32,
+    ticket: u32,
+    first: usize,
+    count: usize,
+    base: &[u16],
+    enhancement: &[u16],
+    output: &mut [u16],
+    marks: &mut [u8],
+) -> u8
+    ensures answers { result ≡ (job_answer (table_job plan table.now open_ticket ticket first count base.now enhancement.now) output.old marks.old).number }
+    ensures writes { output.new ≡ output_after (table_job plan table.now open_ticket ticket first count base.now enhancement.now) output.old marks.old }
+    ensures marking { marks.new ≡ marks_after (table_job plan table.now open_ticket ticket first count base.now enhancement.now) output.old marks.old }
+{
+    speed::speed_table_job(
+        plan,
+        table,
+        open_ticket,
+        ticket,
+        first,
+        count,
+        base,
+        enhancement,
+        output,
+        marks,
+    )
+}
+
+// 0 where the table is filled, else the refusal's number.
+#[unsafe(no_mangle)]
+pub extern "C" fn speed_fill(plan: Plan, table: &mut [u16]) -> u8
+    ensures answers { result ≡ (filling_answer plan (length table.old)).number }
+    ensures writes { table.new ≡ table_after plan table.old }
+{
+    speed::speed_fill(plan, table)
+}
+
+// 0 where the block is written, else the refusal's number.
+#[unsafe(no_mangle)]
+pub extern "C" fn speed_write(plan: Plan, version: u16, out: &mut [u8]) -> u8
+    ensures answers { result ≡ (answer plan version (length out.old)).number }
+    ensures writes { out.new ≡ written plan version out.old }
+{
+    speed::speed_write(plan, version, out)
+}
