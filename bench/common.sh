@@ -18,39 +18,47 @@ columns=$(limit MOST_COLUMNS)
 pairs=$(limit MOST_PAIRS)
 limits="-DMOST_COLUMNS=$columns -DMOST_PAIRS=$pairs"
 
-# a kit of links whose clang keeps the module that it is handed
-kit=$(cd "$(dirname "$(rt doc)")/.." && pwd -P)
-own=$kit/on/$machine
-clang=$own/toolchain/bin/clang
+# a kit of links, but for rt, which goes by where it lies, and for a clang that keeps the module that it is handed
+kit=$(cd "$(dirname "$(rt doc)")" && pwd -P)
+clang=$kit/toolchain/bin/clang
 tools=$(mktemp -d)
 trap 'rm -rf "$tools"' EXIT
-mkdir -p "$tools/kit/on/$machine" "$tools/toolchain/bin" "$tools/kept"
-for part in "$kit"/*; do [ "$(basename "$part")" = on ] || ln -s "$part" "$tools/kit/"; done
-for part in "$own"/*; do [ "$(basename "$part")" = toolchain ] || ln -s "$part" "$tools/kit/on/$machine/"; done
-ln -s "$tools/toolchain" "$tools/kit/on/$machine/toolchain"
-for part in "$own/toolchain"/*; do [ "$(basename "$part")" = bin ] || ln -s "$part" "$tools/toolchain/"; done
-for tool in "$own/toolchain/bin"/*; do [ "$(basename "$tool")" = clang ] || ln -s "$tool" "$tools/toolchain/bin/"; done
-cat >"$tools/toolchain/bin/clang" <<WRAP
+mkdir -p "$tools/kit/bin" "$tools/kit/toolchain/bin" "$tools/kept"
+
+# links_to FROM TO: links in TO to what FROM holds, where TO has nothing of the name
+links_to() {
+  for part in "$1"/*; do
+    [ -e "$2/$(basename "$part")" ] || ln -s "$part" "$2/"
+  done
+}
+cp "$kit/bin/rt" "$kit/bin/rtlib.py" "$tools/kit/bin/"
+cat >"$tools/kit/toolchain/bin/clang" <<WRAP
 #!/bin/sh
 for word in "\$@"; do case \$word in *.bc | *.ll) [ ! -f "\$word" ] || cp "\$word" "$tools/kept/" ;; esac; done
 exec "$clang" "\$@"
 WRAP
-chmod +x "$tools/toolchain/bin/clang"
+chmod +x "$tools/kit/toolchain/bin/clang"
+links_to "$kit" "$tools/kit"
+links_to "$kit/bin" "$tools/kit/bin"
+links_to "$kit/toolchain" "$tools/kit/toolchain"
+links_to "$kit/toolchain/bin" "$tools/kit/toolchain/bin"
 
-# object FOLDER NAME: proves and compiles `speed` of the repository there. $out/NAME.ll is the compiler's module, and
+# object FOLDER NAME: proves and compiles `speed_c` of the repository there. $out/NAME.ll is the compiler's module, and
 # $out/NAME.o its code for the machine at hand: on x86-64 the library as shipped, elsewhere the same module compiled.
 object() {
   rm -f "$tools/kept"/*
-  (cd "$1" && RATTLE_HOME="$tools/kit" rt staticlib speed) >"$out/staticlib.log" 2>&1 ||
+  # a library that is up to date is not compiled again, and its module would not be seen
+  rm -f "$1/crates/speed_c/out/libspeed_c.a"
+  (cd "$1/crates/speed_c" && "$tools/kit/bin/rt" lib) >"$out/staticlib.log" 2>&1 ||
     { tail -n 20 "$out/staticlib.log"; return 1; }
   module=$(find "$tools/kept" -type f | head -n 1)
   "$clang" -x ir "$module" -S -emit-llvm -Xclang -disable-llvm-passes --target=x86_64-unknown-linux-gnu -o "$out/$2.ll"
   if [ "$machine" = x86_64 ]; then
-    ld -r --whole-archive "$1/target/staticlib/libspeed.a" -o "$out/$2.o"
+    ld -r --whole-archive "$1/crates/speed_c/out/libspeed_c.a" -o "$out/$2.o"
     return
   fi
   sed -E -e 's/^target datalayout = .*/target datalayout = "e-m:e-i8:8:32-i16:16:32-i64:64-i128:128-n32:64-S128-Fn32"/' \
-    -e "s/^target triple = .*/target triple = \"$machine-unknown-linux-gnu\"/" -e 's/"target-cpu"="x86-64"//' \
+    -e "s/^target triple = .*/target triple = \"$machine-unknown-linux-gnu\"/" -e 's/"target-cpu"="x86-64[^"]*"//' \
     -e 's/ byval\([^)]*\) (align [0-9]+)/ \1/g' "$out/$2.ll" >"$out/$2.native.ll"
   "$clang" --target="$machine-unknown-linux-gnu" --no-default-config -x ir -fPIC -O3 -c "$out/$2.native.ll" -o "$out/$2.o"
 }

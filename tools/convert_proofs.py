@@ -128,6 +128,8 @@ class Names:
         self.asked = {dict((o, n) for o, n in entry["needs"]).get(k, k): v for k, v in entry["asked"].items()}
         self.settled = {norm(x) for x in entry["settled"]}
         self.places, self.fields = {}, {}
+        self.parent = {norm(old): parent and norm(parent) for old, parent, *_ in entry["places"]}
+        self.at = {need[1]: norm(at[0]) for need, at in zip(entry["needs"], entry["asked_at"])}
         new_places = entry["places_by_name"]
         for (old, parent, (of, nf), callee, *_), new in zip(entry["places"], new_places):
             self.places[norm(old)] = new
@@ -137,11 +139,20 @@ class Names:
             self.fields[norm(lo)] = (ln, None)
             self.fields[norm(lo + "-test")] = (ln + "-test", None)
         self.loops = entry["loops"]
-        self.args = {}
-        for old, new in entry["args"]:
-            if old.startswith((".args .", ".ranges .")):
-                self.args[tuple(old.replace(".", " ").split())] = new.replace(".", " ").split()[1]
         self.own = own  # this function's own clauses: (ensures, requires)
+
+    def up(self, goal, place):
+        """How many steps before a goal a place is, or None."""
+        at, k = self.at.get(goal), 0
+        while at and at != norm(place):
+            at, k = self.parent.get(at), k + 1
+        return k if at else None
+
+    def between(self, start, place):
+        at, k = norm(start), 0
+        while at and at != norm(place):
+            at, k = self.parent.get(at), k + 1
+        return k if at else 0
 
     def clause(self, names, parts):
         """Positions among several clauses by name."""
@@ -165,24 +176,19 @@ class Names:
             parts.pop(0)
         while parts:
             p = parts.pop(0)
-            if p in ("args", "ranges", "fits") and not out:
-                p = "ranges" if p == "fits" else p
-                out.append(p)
-                if parts:
-                    parts[0] = self.args.get((p, parts[0]), parts[0])
-                continue
             if p in ("pre", "requires") and not out:
                 out.append("requires")
                 parts = self.clause(self.own[1], parts)
+                continue
+            if p == "fits" and not out:
+                out.append("ranges")
                 continue
             if not out and norm(p) in self.fields:
                 new, callee = self.fields[norm(p)]
                 out.append(new)
                 if parts:
                     q = parts[0]
-                    if q in ("ok", "type-inv"):
-                        parts[0] = "type_inv"
-                    elif q in ("taken", "right"):
+                    if q in ("taken", "right"):
                         parts[0] = "true"
                     elif q == "left" and not callee:
                         parts[0] = "false"
@@ -260,37 +266,49 @@ def convert(root, crate, folder, names):
     uses, decls, tail = split_decls(text)
     places = r"tie\.(" + W + r")((?: (?:invariant|decreases)-loop\d*)*)"
 
-    local_places = {}  # abbrev In : Type 0 = tie.In-loop ..
-    bodies = []
+    local_places, local_olds = {}, {}  # abbrev In : Type 0 = tie.In-loop ..
+    ways = {}  # abbrev start : tie.Else1 → tie.Start, start e = search rules: how many steps before
+    bodies, kept = [], []
     for comment, lines in decls:
         src = "\n".join(lines)
+        comment, kept = kept + comment, []
         m = re.match(r"abbrev (" + W + r") : Type 0\n\1 =\s+" + places + r"\s*$", src)
         if m:
             local_places[m.group(1)] = names.places.get(norm(m.group(2)), m.group(2))
+            local_olds[m.group(1)] = m.group(2)
+            kept = comment
+            continue
+        m = re.match(r"abbrev (" + W + r") : (\S+)((?: (?:invariant|decreases)-loop\d*)*) → (\S+)((?: (?:invariant|decreases)-loop\d*)*)\n\1 \S+ = [^\n]*$", src)
+        if m and all(x.startswith("tie.") or x in local_olds for x in (m.group(2), m.group(4))):
+            old = [local_olds.get(x, x.replace("tie.", "")) for x in (m.group(2), m.group(4))]
+            ways[m.group(1)] = names.between(old[0], old[1])
+            kept = comment
             continue
         bodies.append((comment, src))
 
     def place_new(name):
         return names.places.get(norm(name), None)
 
-    # abbrev start : tie.Else1 → tie.Start, start e = search rules: a place has the fields of those before it
-    ways = set()
-    for _, src in bodies:
-        for m in re.finditer(r"(?m)^(?:abbrev )?(" + W + r") : [^\n]*\n\1 " + W + r" =\s+search rules$", src):
-            ways.add(m.group(1))
     imports = set()
 
-    def turn(src, roots):
+    def turn(src, roots, goal=None):
         """Turns one body: roots are the variables that are places."""
-        alias = {}
         roots = set(roots)
-        way = "(?:" + "|".join(map(re.escape, ways)) + ")" if ways else None
-        if way:
-            nest = lambda m: m.group(2) + "." if m.group(1).count("(") == len(m.group(3)) else m.group(0)
-            src = re.sub(r"((?:\(" + way + r" )+)(" + W + r")(\)+)\.", nest, src)
-            for m in re.finditer(r"let (" + W + r") = " + way + r" (" + W + r") in\b", src):
-                alias[m.group(1)] = m.group(2)
-                roots.add(m.group(1))
+        one = "(" + "|".join(map(re.escape, ways)) + r") (" + W + r")"
+        while ways:
+            m = re.search(r"let (\S+) = " + one + r" in\s*", src) or re.search(r"\(" + one + r"\)", src)
+            if not m:
+                break
+            new = f"{m.group(m.lastindex)}⁀{ways[m.group(m.lastindex - 1)]}⁀"
+            rest = src[m.end():]
+            if m.group(0).startswith("let"):
+                src = src[: m.start()] + re.sub(r"(?<![\w.'-])" + re.escape(m.group(1)) + r"(?![\w'-])", new, rest)
+            else:
+                src = src[: m.start()] + new + rest
+            while re.search(r"⁀\d+⁀⁀", src):
+                src = re.sub(r"⁀(\d+)⁀⁀(\d+)⁀", lambda mm: f"⁀{int(mm.group(1)) + int(mm.group(2))}⁀", src)
+        src = re.sub(r"⁀\d+⁀\.", ".", src)
+        src = re.sub(r"⁀(\d+)⁀", lambda mm: ".⁀" * int(mm.group(1)), src)
         src = re.sub(r"\((" + W + r") : " + places + r"\)", lambda m: f"({m.group(1)} : {use_place(m.group(2))})", src)
         pattern = re.compile(r"let (" + W + r") : (?:" + places + r"|(" + "|".join(map(re.escape, local_places)) + r")) = search rules in\s*" if local_places else r"let (" + W + r") : " + places + r" = search rules in\s*")
 
@@ -298,9 +316,10 @@ def convert(root, crate, folder, names):
             v = m.group(1)
             new = local_places[m.group(4)] if local_places and m.group(4) else place_new(m.group(2)) or m.group(2)
             lets[v] = new
+            olds[v] = local_olds[m.group(4)] if local_places and m.group(4) else m.group(2)
             return f"\0let {v}\0 "
 
-        lets = {}
+        lets, olds = {}, {}
         src = pattern.sub(let, src)
         for v in lets:
             roots.add(v)
@@ -309,11 +328,13 @@ def convert(root, crate, folder, names):
             word = m.group(0)
             lead = re.match(r"[-←]*", word).group(0) if len(word) > 1 else ""
             parts = word[len(lead):].split(".")
+            if parts[0] in roots and parts[1:] and set(parts[1:]) == {"⁀"}:
+                if parts[0] in lets and "c" in roots:
+                    far = len(parts) - 1 + (names.up(goal, olds[parts[0]]) or 0)
+                    return "c" + ".before" * far
+                return ".".join([parts[0]] + ["before"] * (len(parts) - 1))
             if parts[0] in roots and len(parts) > 1:
-                root = parts[0]
-                while root in alias:
-                    root = alias[root]
-                root = "c" if root in lets and "c" in roots else root
+                root = "c" if parts[0] in lets and "c" in roots else parts[0]
                 return lead + ".".join([root] + names.chain(parts[1:]))
             return word
 
@@ -326,21 +347,16 @@ def convert(root, crate, folder, names):
             for v in {m.group(2), m.group(3)}:
                 src = re.sub(r"(?<![\w.'-])" + v + r"\.0\.(taken|right)(?![\w'-])", f"{v}.if-{cond}.true", src)
                 src = re.sub(r"(?<![\w.'-])" + v + r"\.0\.left(?![\w'-])", f"{v}.if-{cond}.false", src)
+        src = re.sub(r"not-(true|false) _ ((?:" + "|".join(map(re.escape, roots or {"c"})) + r")\.[^\s()]+\.\1)(?![\w'-])", lambda mm: mm.group(2) if re.search(r"\.if\d*-not-", mm.group(2)) else mm.group(0), src)
         for v, new in lets.items():
-            rest = src.replace(f"\0let {v}\0 ", "")
+            rest = src.replace(f"\0let {v}\0", "")
             if re.search(r"(?<![\w.'-])" + re.escape(v) + r"(?![\w'-])", rest) and v != "c":
+                k = names.up(goal, olds[v])
                 imports.add(new)
-                src = src.replace(f"\0let {v}\0 ", f"let {v} : {new} = search rules in\n    ")
+                way = "c" + ".before" * k if k is not None and "c" in roots else "search rules"
+                src = src.replace(f"\0let {v}\0", f"let {v} : {new} = {way} in\n    ")
             else:
-                src = src.replace(f"\0let {v}\0 ", "")
-        for v in reversed(alias):
-            m = re.search(r"let " + re.escape(v) + r" = [^\n]*? in\b\s*", src)
-            if m and not re.search(r"(?<![\w.'-])" + re.escape(v) + r"(?![\w'-])", src[:m.start()] + src[m.end():]):
-                src = src[:m.start()] + src[m.end():]
-        src = re.sub(r"\bnot-(?:true|false) _ (" + W + r"\.if-not-" + W + r")", r"\1", src)
-        src = re.sub(r"\.inv(?![\w'-])", ".invariant", src)
-        for m in set(re.findall(r"let (" + W + r") = \S+\.args in", src)):
-            src = re.sub(r"(?<![\w.'-])" + re.escape(m) + r"\.(" + W + r")", lambda k: m + "." + ".".join([names.args.get(("args", k.group(1).split(".")[0]), k.group(1).split(".")[0])] + k.group(1).split(".")[1:]), src)
+                src = src.replace(f"\0let {v}\0", "")
         return src
 
     def use_place(name):
@@ -378,7 +394,16 @@ def convert(root, crate, folder, names):
                     ps[0] = table[ps[0]]
                 return lead + ".".join(ps)
 
-            body = re.sub(W, sub, body)
+            for b in re.findall(r"λ (" + W + r")\. ", body):
+                if b in table:
+                    at = body.index(f"λ {b}. ")
+                    depth, end = 0, at
+                    while end < len(body) and depth >= 0:
+                        depth += (body[end] in "([{") - (body[end] in ")]}")
+                        end += 1
+                    inner = re.sub(r"(?<![\w.'-])" + re.escape(b) + r"(?![\w'-])", b + "⁀", body[at:end])
+                    body = body[:at] + inner + body[end:]
+            body = re.sub(W, sub, body).replace("⁀", "")
             invariants.append((comment, f"abbrev pub {kind}-{new} : goal.{kind}-{new}\n{kind}-{new} l ={body}"))
             continue
         m = re.match(r"(" + W + r") : tie\.Need-(" + W + r")((?: (?:invariant|decreases)-loop\d*)*)\n((?:unfolding [^\n]*\n)?)\1((?: [^\s=:]+)*) =", src)
@@ -390,7 +415,7 @@ def convert(root, crate, folder, names):
             b = body.strip()
             if re.fullmatch(r"(search rules|omega arith|refl)", b) and not m.group(4):
                 continue
-            body = by_clauses(turn(body, args[:1]), names.asked.get(new))
+            body = by_clauses(turn(body, args[:1], new), names.asked.get(new))
             rest = "".join("\n" + x for x in re.findall(r"\n(?=  where)", body))
             entry = f"pub {new} : goal.{new}\n{m.group(4)}{new} {' '.join(args)} ={body}"
             if new is None:
@@ -440,7 +465,7 @@ def convert(root, crate, folder, names):
             if hi_i - lo_i == hi - lo:
                 new = order[lo + i - lo_i]
         if new:
-            answers.append(([], f"pub {new} : goal.{new}\n{new} c =\n    {by_clauses(turn(body, ['c']), names.asked.get(new))}"))
+            answers.append(([], f"pub {new} : goal.{new}\n{new} c =\n    {by_clauses(turn(body, ['c'], new), names.asked.get(new))}"))
         else:
             unplaced.append(f"inline {i}: {a}")
 

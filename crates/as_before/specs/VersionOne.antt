@@ -52,7 +52,7 @@ SameLuma p s =
     let h = p.header in
     mapped (bl_depth h) h.d (mapping p.y) s ≡ mapped_before_r2 (bl_depth h) h.d (mapping (without_last p.y)) s
 
--- a sample s of a chroma component, beside a down_sampled luma sample s0, a Cb sample s1 and a Cr sample s2, is mapped as before
+-- a sample s of a chroma component, beside a down-sampled luma sample s0, a Cb sample s1 and a Cr sample s2, is mapped as before
 abbrev pub SameChroma : Plan → Component → ℕ → ℕ → ℕ → ℕ → Type 0
 SameChroma p c s s0 s1 s2 =
     let h = p.header in

@@ -102,6 +102,7 @@ fn body(bytes: &[u8], t: usize, x: Trailer) -> Reading
 }
 
 // Reads a composing block: the bytes before its header are ignored.
+#[tactic(auto, using(crate::proofs::Cascade::bad_trailer))]
 pub fn read(bytes: &[u8]) -> Reading
     ensures value { result ≡ read bytes.now }
     ensures sound { Sound result }

@@ -65,12 +65,12 @@ accepted j output-length marks-length = eqb (job_refusal j output-length marks-l
 abbrev pub sample : Job → ℕ → ℕ
 sample j = composed_by j.work.source j.work.plan j.work.base j.work.enhancement
 
--- R-6: a job makes full row pairs where the flag is 1 or it brings an enhancement that is used, and base_only ones otherwise
+-- R-6: a job makes full row pairs where the flag is 1 or it brings an enhancement that is used, and base-only ones otherwise
 abbrev pub is_full : Job → Bool
 is_full j = makes_full j.work.plan.header (length j.work.enhancement)
 
 -- an accepted job composes row pairs that it names and marks them, 1 as full or 2 as base only, and writes nothing else; one that
--- makes base_only ones keeps those that are full
+-- makes base-only ones keeps those that are full
 unfoldable pub output_after : Job → List ℕ → List ℕ → List ℕ
 output_after j output marks =
     cond (accepted j (length output) (length marks))
@@ -81,7 +81,7 @@ unfoldable pub marks_after : Job → List ℕ → List ℕ → List ℕ
 marks_after j output marks =
     cond (accepted j (length output) (length marks)) (painted (composes j.work marks) (λ k. cond (is_full j) 1 2) marks) marks
 
--- what each case of the answer says: done, with the rows left and the base_only ones, or refused, with the number alone
+-- what each case of the answer says: done, with the rows left and the base-only ones, or refused, with the number alone
 abbrev pub says : Answer → Outcome
 says (Done left base_only) = granted (left ∷ base_only ∷ [])
 says (Refused k) = denied k
@@ -109,6 +109,6 @@ pub record EverySample : Type 0 where
   -- every other sample is as it was, and so is every sample where the job is refused
   pub others : (j : Job) (output marks : List ℕ) (i : ℕ) → i < length output → composes j.work marks (pair_at (extent j.work.plan.header) i) ≡ false → get_or (output_after j output marks) i 0 ≡ get_or output i 0
   pub refused : (j : Job) (output marks : List ℕ) → accepted j (length output) (length marks) ≡ false → output_after j output marks ≡ output
-  -- R-6: a job that makes base_only row pairs keeps the full ones, samples and marks
+  -- R-6: a job that makes base-only row pairs keeps the full ones, samples and marks
   pub kept_samples : (j : Job) (output marks : List ℕ) (i : ℕ) → i < length output → is_full j ≡ false → full_at marks (pair_at (extent j.work.plan.header) i) ≡ true → get_or (output_after j output marks) i 0 ≡ get_or output i 0
   pub kept_marks : (j : Job) (output marks : List ℕ) (k : ℕ) → k < length marks → is_full j ≡ false → full_at marks k ≡ true → get_or (marks_after j output marks) k 0 ≡ get_or marks k 0

@@ -24,7 +24,7 @@ module _ (p : Plan) (base enhancement output marks : List ℕ) (js : List Job) w
     pub memory_is : m ≡ run js (opened p output marks)
     pub answers_are : os ≡ answers js (opened p output marks)
     pub finished : StaysFinished (Asked p base enhancement (length output) (length marks)) p base enhancement output marks js
-    -- the next call, if its job is accepted, answers the row pairs left and the base_only ones
+    -- the next call, if its job is accepted, answers the row pairs left and the base-only ones
     pub next : (c : AnyJobCall) → (any_done c).before ≡ m → Asked p base enhancement (length output) (length marks) (any_done c).given → accepted (any_done c).given (length output) (length marks) ≡ true →
         Leaves (any_done c).said (rows_left_after p (length output) (length marks) (js ++ ((any_done c).given ∷ []))) (rows_base_only_after p (length output) (length marks) (js ++ ((any_done c).given ∷ [])))
 

@@ -6,7 +6,7 @@ use Rattle.jobs.specs.Jobs.{Job, accepted, sample, is_full}
 use Rattle.calls.specs.Calls.{Memory}
 use Rattle.night.specs.Sequence.{run}
 
--- two accepted jobs of one plan, of which one makes full row pairs and the other base_only ones
+-- two accepted jobs of one plan, of which one makes full row pairs and the other base-only ones
 pub record BothKinds (whole base : Job) (m : Memory) : Type 0 where
   pub same_plan : base.work.plan ≡ whole.work.plan
   pub whole_accepted : accepted whole (length m.output) (length m.marks) ≡ true

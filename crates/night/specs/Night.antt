@@ -58,7 +58,7 @@ pub record StaysFinished (P : Job → Type 0) (p : Plan) (base enhancement outpu
   -- output and marks are as long as they were
   pub size : length (run js (opened p output marks)).output ≡ length output
   pub pairs : length (run js (opened p output marks)).marks ≡ length marks
-  -- the next job, if it is accepted, answers the row pairs that no accepted job so far, itself included, has named, and the base_only ones
+  -- the next job, if it is accepted, answers the row pairs that no accepted job so far, itself included, has named, and the base-only ones
   pub next : (j : Job) → P j → accepted j (length output) (length marks) ≡ true →
       (let end = run js (opened p output marks) in
       Leaves (job_answer j end.output end.marks) (rows_left_after p (length output) (length marks) (js ++ (j ∷ []))) (rows_base_only_after p (length output) (length marks) (js ++ (j ∷ []))))

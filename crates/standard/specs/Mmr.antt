@@ -22,7 +22,7 @@ row_sum w s i =
     let x = pos (2 * i) in
     (s (inside w (x -ℤ pos 1)) + 2 * s (inside w x) + s (inside w (x +ℤ pos 1)) + 2) >> 2
 
--- the down_sampled luma sample of chroma column i, between the luma rows 2j and 2j + 1, which are never beside the picture
+-- the down-sampled luma sample of chroma column i, between the luma rows 2j and 2j + 1, which are never beside the picture
 unfoldable pub down_sampled : ℕ → (ℕ → ℕ) → (ℕ → ℕ) → ℕ → ℕ
 down_sampled w upper lower i = (row_sum w upper i + row_sum w lower i + 1) >> 1
 
@@ -76,7 +76,7 @@ mmr depth d m s0 s1 s2 =
 abbrev pub to_pivots : Mapping → ℕ → ℕ
 to_pivots m s = let pivot = pivot_value m.pred_pivot_value in clamped (pivot 0) (pivot (m.num_pivots_minus2 + 1)) s
 
--- v of a down_sampled luma sample, a Cb and a Cr sample, each clamped with the pivots of its own component
+-- v of a down-sampled luma sample, a Cb and a Cr sample, each clamped with the pivots of its own component
 unfoldable pub mmr_mapped : ℕ → ℕ → Mmr → Mapping → Mapping → Mapping → ℕ → ℕ → ℕ → ℕ
 mmr_mapped depth d m y cb cr s0 s1 s2 = mmr depth d m (to_pivots y s0) (to_pivots cb s1) (to_pivots cr s2)
 

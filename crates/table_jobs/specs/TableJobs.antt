@@ -4,7 +4,7 @@ use Rattle.refusals.specs.Refusals.{Outcome, granted, denied}
 use Rattle.table_jobs.specs.declared.TableAnswer.{TableAnswer}
 use Rattle.table_jobs.specs.declared.TableAnswer.TheVariants.{Done, Refused}
 
--- done, with the rows left and the base_only ones, or refused, with the number alone
+-- done, with the rows left and the base-only ones, or refused, with the number alone
 abbrev pub says : TableAnswer → Outcome
 says (Done left base_only) = granted (left ∷ base_only ∷ [])
 says (Refused k) = denied k

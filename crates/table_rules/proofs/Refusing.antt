@@ -5,7 +5,7 @@ use Prim.Native.Nat.{ℕ}
 use native.Mathlib.Omega.{arith}
 
 -- ---- what a plan is
-abbrev Method : Bool → Bool → ℕ
+abbrev pub Method : Bool → Bool → ℕ
 Method fits mmr = cond fits (cond mmr 2 1) 0
 
 pub polynomials_alone : (fits mmr : Bool) → (fits && not mmr) ≡ true → 1 ≡ Method fits mmr

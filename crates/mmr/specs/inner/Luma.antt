@@ -1,4 +1,4 @@
--- The down_sampled luma sample, where two rows of luma lie one after the other in a run.
+-- The down-sampled luma sample, where two rows of luma lie one after the other in a run.
 use Rattle.std.specs.Prelude.{List, ℕ, ◌+◌, ◌*◌}
 use Rattle.runs.specs.inner.Loops.{at}
 use Rattle.standard.specs.Mmr.{◌>>◌, down_sampled}

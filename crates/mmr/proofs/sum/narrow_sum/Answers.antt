@@ -1,0 +1,61 @@
+use borrow.Author.Rules.{rules}
+use mathlib.Core.Path.{◌≡◌, ap, ◌∙◌}
+use Prim.Native.Nat.{◌-◌, ◌*◌, ◌^◌, ◌≤◌}
+use native.Mathlib.Nat.{le_trans, mul-le-mul_right}
+use native.Mathlib.Omega.{arith}
+use lib.IntN.{pos}
+use mir.Syntax.{w64}
+use mir.Val.{of_z}
+use Rattle.words.proofs.Holding.{Holds, bounded, number, add, add_asked, mul, mul_asked}
+use Rattle.runs.specs.inner.Loops.{at}
+use Rattle.mmr.specs.inner.Apart.{coef, whole_sum, narrow_most}
+use Rattle.mmr.proofs.Apart.{whole_none, whole_more}
+use Rattle.mmr.proofs.Sizes.{whole_sum_le}
+use Rattle.mmr.proofs.sum.narrow_sum.Goals.{At-loop-i, In-loop-i}
+use Rattle.mmr.proofs.sum.narrow_sum.Goals as goal
+
+-- each number on the way, and its bound
+w : (il : In-loop-i) → Holds (of_z w64 (coef il.args.row.now il.loop-i.i)) (coef il.args.row.now il.loop-i.i) narrow_most
+w il = bounded (il.requires.coefficient il.loop-i.i) tt
+
+t : (il : In-loop-i) → Holds (at il.args.ts.now il.loop-i.i) (pos (at il.args.ts.now il.loop-i.i)) (2 ^ 20)
+t il = number (il.requires.term il.loop-i.i) tt
+
+so_far : (lp : At-loop-i) → Holds lp.loop-i.sum (whole_sum (coef lp.args.row.now) (at lp.args.ts.now) lp.loop-i.i) (22 * (narrow_most * 2 ^ 20))
+so_far lp =
+    let st = lp in
+    let l : lp.loop-i.i ≤ 22 = omega (arith, lp.loop-i.invariant.0, st.requires.few) in
+    record {
+      is = lp.loop-i.invariant.1;
+      le = le_trans (whole_sum_le (coef st.args.row.now) (at st.args.ts.now) narrow_most st.requires.coefficient st.requires.term lp.loop-i.i) (mul-le-mul_right (narrow_most * 2 ^ 20) l);
+    }
+
+pub overflow_mul-sum : goal.overflow_mul-sum
+overflow_mul-sum c =
+    let il : In-loop-i = search rules in
+    mul_asked (w il) (t il) tt
+
+pub overflow_add-sum : goal.overflow_add-sum
+overflow_add-sum c =
+    let il : In-loop-i = search rules in
+    add_asked (so_far c) (mul (w il) (t il) tt) tt
+
+pub loop-i-preserved : goal.loop-i-preserved
+loop-i-preserved c =
+    let il : In-loop-i = search rules in
+    let a = c.args in
+    (omega arith, (add (so_far c) (mul (w il) (t il) tt) tt).is ∙ whole_more (coef a.row.now) (at a.ts.now) c.loop-i.i)
+
+pub returns : goal.returns
+returns c =
+    let a = c.args in
+    let e : c.loop-i.i ≡ a.count = omega arith in
+    c.loop-i.invariant.1 ∙ ap (whole_sum (coef a.row.now) (at a.ts.now)) e
+
+pub loop-i-init : goal.loop-i-init
+loop-i-init c =
+    (omega arith, whole_none (coef c.args.row.now) (at c.args.ts.now))
+
+pub overflow_cast-sum : goal.overflow_cast-sum
+overflow_cast-sum c =
+    record { sfits = omega (arith, c.requires.term c.loop-i.i) }
