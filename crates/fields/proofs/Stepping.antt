@@ -12,7 +12,7 @@ use Rattle.fields.specs.declared.Name.{Name}
 use Rattle.fields.specs.declared.Ask.{Ask}
 use Rattle.fields.specs.declared.Cursor.{Cursor}
 use Rattle.fields.specs.declared.Field.{Field}
-use Rattle.fields.specs.Fields.{Read, refused, got, wide, number, field, ended}
+use Rattle.fields.specs.Fields.{refused, got, wide, number, field, ended}
 use Rattle.fields.specs.inner.Cursors.{going, halted, step, judged, over, from, Reads}
 
 -- a field whose value, and the bytes that it has passed, are plain variables

@@ -1,5 +1,6 @@
 -- The machine words of a coefficient and its parts, and how large the parts are. Assumes nothing.
 use mathlib.Core.Path.{◌≡◌, ap, ◌∙◌}
+use mathlib.Core.List.{List}
 use Prim.Native.Nat.{ℕ, ◌*◌, ◌%◌, ◌^◌, ◌≤◌}
 use native.Mathlib.Nat.{le_trans, le_of_lt, lt_of_lt_of_le, mul-le-mul_left, mod-eq_of_lt, one-mul}
 use native.Mathlib.Omega.{arith}
@@ -9,9 +10,16 @@ use lib.Signed.{shr_z}
 use mir.Syntax.{w64}
 use mir.Val.{SFits, to_z, of_z}
 use Rattle.words.proofs.Holding.{Holds, bounded, number, shr, sub, mul}
-use Rattle.mmr.specs.inner.Apart.{fraction}
+use Rattle.mmr.specs.inner.Apart.{coef, fraction}
 use Rattle.mmr.proofs.Ring.{fraction_lt, left_over}
 use Rattle.mmr.proofs.Sizes.{whole_le}
+
+-- the integer parts of a row's coefficients, and their fractions
+abbrev pub wholes : ℕ → List ℤ → ℕ → ℤ
+wholes d row i = shr_z (coef row i) (2 ^ d)
+
+abbrev pub parts : ℕ → List ℤ → ℕ → ℕ
+parts d row i = fraction (coef row i) (2 ^ d)
 
 module _ (d : ℕ) (h : d ≤ 32) where
   exact : (1 * 2 ^ d) % 2 ^ 64 ≡ 2 ^ d

@@ -7,15 +7,14 @@ use Prim.Native.Nat.{ℕ, ◌+◌, ◌-◌, ◌*◌, ◌/◌, ◌≤◌, ◌<◌
 use native.Mathlib.Nat.{le-div_iff_mul-le, div-lt_iff_lt-mul, div-div-eq-div-mul, mul_comm, mul_assoc, mul_left_comm, mul-le-mul_left}
 use native.Mathlib.Omega.{arith}
 use lib.Dec.{leb, ltb}
-use lib.ListN.{length}
 use borrow.Author.Tests.{lt-ltb, le-ltb, le-leb, lt-leb, leb-true}
 use Rattle.runs.specs.Runs.{painted, some}
 use Rattle.runs.proofs.Between.{lt_or_ge}
-use Rattle.runs.proofs.Painting.{length-painted, painted_cong, painted-over}
+use Rattle.runs.proofs.Painting.{painted_cong, painted-over}
 use Rattle.runs.proofs.Testing.{some_cong, some_or}
 use Rattle.picture.specs.declared.Extent.{Extent}
 use Rattle.picture.specs.declared.Plane.{Plane}
-use Rattle.picture.specs.Picture.{width, luma_size, chroma_size, picture_size, of_plane, pair_at}
+use Rattle.picture.specs.Picture.{width, luma_size, chroma_size, of_plane, pair_at}
 use Rattle.picture.specs.inner.Planes.{luma_plane, cb_plane, cr_plane, row_start, in_rows, lies, InPlane, InPicture}
 
 -- luma has four times the samples of a chroma plane

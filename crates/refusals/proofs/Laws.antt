@@ -1,11 +1,11 @@
 -- Lists of rules: what it says that none is met, and one list before another. Assumes nothing.
-use mathlib.Core.Path.{◌≡◌, refl, sym, ap, ◌∙◌}
+use mathlib.Core.Path.{◌≡◌, refl, sym, ap}
 use mathlib.Core.Bool.{Bool, true, false, cond, not, ◌&&◌, ◌||◌, true≢false}
-use mathlib.Core.List.{List, [], ◌∷◌, ◌++◌}
+use mathlib.Core.List.{List, [], ◌∷◌}
 use Prim.Native.Nat.{ℕ, zero, suc}
 use native.Mathlib.Omega.{arith}
 use lib.Dec.{eqb}
-use Rattle.refusals.specs.Refusals.{Rule, rule, first_met, Outcome, outcome, granted, denied}
+use Rattle.refusals.specs.Refusals.{Rule, first_met, outcome, granted, denied}
 
 -- no rule of a list is met
 abbrev pub Unmet : List Rule → Type 0

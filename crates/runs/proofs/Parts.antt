@@ -1,13 +1,13 @@
 -- A part of a run that is painted, and put back into the run. Assumes nothing.
-use mathlib.Core.Path.{◌≡◌, refl, sym, ap, subst, ◌∙◌}
+use mathlib.Core.Path.{◌≡◌, sym, ap, ◌∙◌}
 use mathlib.Core.Bool.{Bool, true, cond}
-use mathlib.Core.List.{List, ◌++◌}
+use mathlib.Core.List.{List}
 use mathlib.Core.Logic.{⊎_elim}
 use Prim.Native.Nat.{ℕ, ◌+◌, ◌-◌, ◌<◌, ◌≤◌}
 use native.Mathlib.Omega.{arith}
 use lib.ListN.{length, get_or, take, drop, length-take, length-drop, get_or-append}
 use lib.Seq.{get_or-take, get_or-drop, get_or-append-add, length-take-le}
-use borrow.Rule.Slice.PartMut.{put_mid, post_of, same_len_mid, mid_len, Post-is}
+use borrow.Rule.Slice.PartMut.{put_mid, same_len_mid, mid_len, Post-is}
 use Rattle.runs.specs.Runs.{painted, between}
 use Rattle.runs.proofs.Between.{lt_or_ge, in_between, under-between, over-between}
 use Rattle.runs.proofs.Painting.{length-painted, at-painted, is_painted}

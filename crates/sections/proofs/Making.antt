@@ -1,13 +1,18 @@
 -- Numbers, pieces and sections are made of their parts, read one after the other. Assumes nothing.
-use mathlib.Core.Path.{◌≡◌, refl, ap, ◌∙◌}
+use mathlib.Core.Path.{◌≡◌, refl, sym, ap, ◌∙◌, subst}
 use mathlib.Core.Bool.{Bool, true, false, cond, ◌&&◌}
 use mathlib.Core.List.{List, [], ◌∷◌, ◌++◌}
 use Prim.Native.Nat.{ℕ, ◌+◌, ◌-◌, ◌*◌, ◌^◌, ◌≤◌}
 use native.Mathlib.Omega.{arith}
 use lib.Dec.{leb, eqb}
 use lib.ListN.{length, get_or, set, drop, length-drop}
-use lib.IntN.{ℤ, pos, ◌+ℤ◌, ◌*ℤ◌}
+use lib.IntN.{ℤ, pos, nat_abs, ◌+ℤ◌, ◌*ℤ◌}
 use borrow.Author.Tests.{le-leb}
+use lib.Pow.{pow_mono}
+use mir.Syntax.{w64}
+use mir.Val.{SFits, to_z, of_z}
+use Rattle.words.proofs.Holding.{Holds, number, result, mul, add_asked}
+use Rattle.section_fields.proofs.Bytes.{signed_le}
 use Rattle.plan.specs.declared.Header.{Header}
 use Rattle.plan.specs.declared.Piece.{Piece}
 use Rattle.plan.specs.declared.Nlq.{Nlq}
@@ -101,3 +106,12 @@ module _ (s : List ℕ) (version : ℕ) (h : Header) (k : ℕ) {c : Component} {
   pub ended-found : end.stopped ≡ false → record { number = 0; place = 0; field = no_name; component = c } ≡ found s (under version h k s)
   unfolding from found
   ended-found e = rw e at read_is
+
+-- a coefficient's sum fits
+pub sum_fits : (idc n one f d : ℕ) {z : ℤ} → SFits w64 z → z ≡ signed (integer_width idc) n → integer_fits idc n ≡ true → one ≤ 2 ^ 32 → d ≤ 32 → f ≤ 2 ^ d
+    → SFits w64 (to_z w64 (of_z w64 (to_z w64 (of_z w64 z) *ℤ to_z w64 one)) +ℤ to_z w64 f)
+sum_fits idc n one f d {z} s e i o h l =
+    let whole : Holds (of_z w64 z) z 65536 = result s.sfits (subst (λ (z : ℤ). nat_abs z ≤ 65536) (sym e) (signed_le idc n i)) in
+    let scale : Holds one (pos one) (2 ^ 32) = number o tt in
+    let rest : Holds f (pos f) (2 ^ 32) = number (omega (arith, l, pow_mono {i = d} {j = 32} h)) tt in
+    add_asked (mul whole scale tt) rest tt

@@ -33,6 +33,7 @@ pub(crate) fn below_power(s: &[u8], c: Cursor, a: Ask, bits: u8) -> Field
 }
 
 // The coefficient in place i of piece p. The fraction adds upward, also to a negative integer part.
+#[tactic(auto, using(crate::proofs::Making::sum_fits))]
 pub(crate) fn coefficient(
     s: &[u8],
     c: Cursor,

@@ -1,5 +1,5 @@
 -- The parameters of clause 5.3 that the composing process reads, under the standard's names, over unbounded numbers.
-use Rattle.std.specs.Prelude.{ℕ, ◌*◌, ◌^◌, ℤ, pos, ◌+ℤ◌, ◌*ℤ◌}
+use Rattle.std.specs.Prelude.{ℕ, ◌^◌, ℤ, pos, ◌+ℤ◌, ◌*ℤ◌}
 
 -- 5.3.3.3: one piece of MMR; coefficient [i][j] has i from 1 to the order and j from 0 to 6
 pub record Mmr : Type 0 where

@@ -1,6 +1,6 @@
 -- A machine word of 64 bits that holds an integer within a bound. A bound is a number that antt computes, so that each step is shown by `tt`. Assumes nothing.
 use mathlib.Core.Path.{◌≡◌, ap, ◌∙◌}
-use Prim.Native.Nat.{ℕ, ◌+◌, ◌*◌, ◌-◌, ◌^◌, ◌<◌, ◌≤◌}
+use Prim.Native.Nat.{ℕ, ◌+◌, ◌*◌, ◌^◌, ◌<◌, ◌≤◌}
 use native.Mathlib.Nat.{le_trans, le_refl, le_of_eq}
 use native.Mathlib.Omega.{arith}
 use lib.Pow.{pow_mono}

@@ -1,3 +1,2 @@
 // Laws only: this crate has no code.
 #![tactic(auto)]
-

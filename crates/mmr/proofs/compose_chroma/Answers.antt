@@ -1,5 +1,4 @@
 -- `mmr::compose_chroma` meets its contract: where a test fails nothing is written. Assumes nothing.
-use borrow.Author.Rules.{rules}
 use mathlib.Core.Path.{◌≡◌, refl, sym, ap₂, ◌∙◌}
 use mathlib.Core.Bool.{Bool, true, false, ◌&&◌}
 use mathlib.Core.List.{List}
@@ -9,11 +8,7 @@ use Rattle.sums.specs.declared.Cut.{Cut}
 use Rattle.plan.specs.declared.Plan.{Plan}
 use Rattle.plan.proofs.Truths.{both}
 use Rattle.mmr.specs.inner.Chroma.{numbers_fit, pairs_fit, runs_fit, chroma_painted, chroma_after, PlanReady}
-use Rattle.mmr.proofs.compose_chroma.Goals.{After-numbers_fit, After-runs_fit, Else-not-numbers_fit, Else-not-pairs_fit-runs_fit, Start}
 use Rattle.mmr.proofs.compose_chroma.Goals as goal
-
-abbrev Pictures : Start → Bool
-Pictures st = let a = st.args in pairs_fit a.plan.header a.first a.last && runs_fit a.plan.header (length a.base.now) (length a.enhancement.now) (length a.output.now)
 
 -- what is left by the tests
 module _ (p : Plan) (first last : ℕ) (raised1 raised2 : List ℕ) (cut : Cut) (marks base enhancement output : List ℕ) where
@@ -40,43 +35,27 @@ returns-then-not-numbers_fit c =
     let a = c.args in
     no_numbers a.plan a.first a.last a.raised1.now a.raised2.now a.cut a.marks.now a.base.now a.enhancement.now a.output.now (sym c.numbers_fit.ensures ∙ c.if-not-numbers_fit.true)
 
-passed : (e : Else-not-numbers_fit) → let st : Start = search rules in
-    PlanReady st.args.plan
-passed e = let n : After-numbers_fit = search rules in
-    sym n.numbers_fit.ensures ∙ e.if-not-numbers_fit.false
-
-tested : (c : After-runs_fit) → let st : Start = search rules in
-    (c.pairs_fit.result && c.runs_fit.result) ≡ Pictures st
-tested c =
-    ap₂ ◌&&◌ c.pairs_fit.ensures c.runs_fit.ensures
-
+-- the tests that pass
 pub returns-then-not-pairs_fit-runs_fit : goal.returns-then-not-pairs_fit-runs_fit
 returns-then-not-pairs_fit-runs_fit c =
-    let e : Else-not-numbers_fit = search rules in
-    let r : After-runs_fit = search rules in
     let a = c.args in
-    no_pictures a.plan a.first a.last a.raised1.now a.raised2.now a.cut a.marks.now a.base.now a.enhancement.now a.output.now (passed e) (sym (tested r) ∙ c.if-not-pairs_fit-runs_fit.true)
-
-whole : (c : Else-not-pairs_fit-runs_fit) → let st : Start = search rules in
-    Pictures st ≡ true
-whole c = let r : After-runs_fit = search rules in
-    sym (tested r) ∙ c.if-not-pairs_fit-runs_fit.false
+    let passed : PlanReady a.plan = sym c.numbers_fit.ensures ∙ c.if-not-numbers_fit.false in
+    no_pictures a.plan a.first a.last a.raised1.now a.raised2.now a.cut a.marks.now a.base.now a.enhancement.now a.output.now passed (sym (ap₂ ◌&&◌ c.pairs_fit.ensures c.runs_fit.ensures) ∙ c.if-not-pairs_fit-runs_fit.true)
 
 pub with_cb-requires : goal.with_cb-requires
 with_cb-requires c =
-    let e : Else-not-numbers_fit = search rules in
-    let w : Else-not-pairs_fit-runs_fit = search rules in
-    let t = both (pairs_fit c.args.plan.header c.args.first c.args.last) _ (whole w) in
-    record { ready = passed e; format = c.format_of-f.ensures; pairs = t.0; runs = t.1 }
+    let a = c.args in
+    let passed : PlanReady a.plan = sym c.numbers_fit.ensures ∙ c.if-not-numbers_fit.false in
+    let whole : pictures a.plan a.first a.last a.raised1.now a.raised2.now a.cut a.marks.now a.base.now a.enhancement.now a.output.now ≡ true = sym (ap₂ ◌&&◌ c.pairs_fit.ensures c.runs_fit.ensures) ∙ c.if-not-pairs_fit-runs_fit.false in
+    let t = both (pairs_fit a.plan.header a.first a.last) _ whole in
+    record { ready = passed; format = c.format_of-f.ensures; pairs = t.0; runs = t.1 }
 
 pub returns : goal.returns
 returns c =
-    let e : Else-not-numbers_fit = search rules in
-    let w : Else-not-pairs_fit-runs_fit = search rules in
     let a = c.args in
-    c.with_cb.ensures ∙ all_there a.plan a.first a.last a.raised1.now a.raised2.now a.cut a.marks.now a.base.now a.enhancement.now a.output.now (passed e) (whole w)
+    let passed : PlanReady a.plan = sym c.numbers_fit.ensures ∙ c.if-not-numbers_fit.false in
+    let whole : pictures a.plan a.first a.last a.raised1.now a.raised2.now a.cut a.marks.now a.base.now a.enhancement.now a.output.now ≡ true = sym (ap₂ ◌&&◌ c.pairs_fit.ensures c.runs_fit.ensures) ∙ c.if-not-pairs_fit-runs_fit.false in
+    c.with_cb.ensures ∙ all_there a.plan a.first a.last a.raised1.now a.raised2.now a.cut a.marks.now a.base.now a.enhancement.now a.output.now passed whole
 
 pub format_of-f-requires : goal.format_of-f-requires
-format_of-f-requires c =
-    let e : Else-not-numbers_fit = search rules in
-    passed e
+format_of-f-requires c = sym c.numbers_fit.ensures ∙ c.if-not-numbers_fit.false

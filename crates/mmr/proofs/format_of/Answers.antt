@@ -1,5 +1,4 @@
 -- `mmr::format_of` meets its contract. Assumes nothing.
-use borrow.Author.Rules.{rules}
 use borrow.Author.Tests.{leb-true}
 use mathlib.Core.Path.{◌≡◌, refl}
 use Prim.Native.Nat.{ℕ, ◌+◌, ◌*◌, ◌%◌, ◌^◌, ◌≤◌, max}
@@ -11,27 +10,25 @@ use Rattle.plan.specs.Rule7.{pieces_used}
 use Rattle.plan.proofs.Shifting.{one_shifted}
 use Rattle.mmr.specs.declared.columns.Ends.{Ends}
 use Rattle.mmr.specs.inner.Ready.{Highest}
-use Rattle.mmr.specs.inner.Chroma.{ends_of, FormatFor}
+use Rattle.mmr.specs.inner.Chroma.{ends_of, FormatFor, PlanReady}
 use Rattle.mmr.proofs.Whole.{ready_header, y_few, cb_few, cr_few, higher_of, higher_of_second}
-use Rattle.mmr.proofs.format_of.Goals.{Start}
 use Rattle.mmr.proofs.format_of.Goals as goal
 
-shallow : (st : Start) → st.args.plan.header.bl ≤ 2
-shallow st = (ready_header st.args.plan st.requires).base_depth
+shallow : (p : Plan) → PlanReady p → p.header.bl ≤ 2
+shallow p r = (ready_header p r).base_depth
 
 -- there are 2 ^ depth codes
-all : (st : Start) → (1 * 2 ^ (st.args.plan.header.bl + 8)) % 18446744073709551616 ≡ 2 ^ (st.args.plan.header.bl + 8)
-all st = one_shifted (st.args.plan.header.bl + 8) (omega (arith, shallow st))
+all : (p : Plan) → PlanReady p → (1 * 2 ^ (p.header.bl + 8)) % 18446744073709551616 ≡ 2 ^ (p.header.bl + 8)
+all p r = one_shifted (p.header.bl + 8) (omega (arith, shallow p r))
 
 -- the format by its parts
-made : (p : Plan) (codes order a b : ℕ) (y cb cr : Ends) → codes ≡ 2 ^ bl_depth p.header → order ≡ max a b → y ≡ ends_of p.y → cb ≡ ends_of p.cb-1 → cr ≡ ends_of p.cr-1 → Highest p.cb-1 (pieces_used p.cb-1.n) a → Highest p.cr-1 (pieces_used p.cr-1.n) b → FormatFor p (record { depth = bl_depth p.header; codes = codes; d = p.header.d; order = order; y = y; cb = cb; cr = cr })
+made : (p : Plan) (codes order a b : ℕ) (y cb cr : Ends) → codes ≡ 2 ^ bl_depth p.header → order ≡ max a b → y ≡ ends_of p.y → cb ≡ ends_of p.cb → cr ≡ ends_of p.cr → Highest p.cb (pieces_used p.cb.n) a → Highest p.cr (pieces_used p.cr.n) b → FormatFor p (record { depth = bl_depth p.header; codes = codes; d = p.header.d; order = order; y = y; cb = cb; cr = cr })
 made p codes order a b y cb cr e o f g h s t =
     rw (e, o, f, g, h) (record { is = refl; cb = higher_of b t.most s; cr = higher_of_second a s.most t })
 
 pub returns : goal.returns
 returns c =
-    let st : Start = search rules in
-    made c.args.plan _ _ _ _ _ _ _ (all st) c.greater-order.ensures c.ends_of-y.ensures c.ends_of-blue.ensures c.ends_of-red.ensures c.highest_order.ensures c.highest_order-2.ensures
+    made c.args.plan _ _ _ _ _ _ _ (all c.args.plan c.requires) c.greater-order.ensures c.ends_of-y.ensures c.ends_of-blue.ensures c.ends_of-red.ensures c.highest_order.ensures c.highest_order-2.ensures
 
 pub highest_order-requires : goal.highest_order-requires
 highest_order-requires c =
@@ -55,10 +52,8 @@ ends_of-red-requires c =
 
 pub overflow_shl-result : goal.overflow_shl-result
 overflow_shl-result c =
-    let st : Start = search rules in
-    omega (arith, shallow st)
+    omega (arith, shallow c.args.plan c.requires)
 
 pub overflow_cast-result-2 : goal.overflow_cast-result-2
 overflow_cast-result-2 c =
-    let st : Start = search rules in
-    record { fits = omega (arith, all st, pow_mono {i = c.args.plan.header.bl + 8} {j = 10} (omega (arith, shallow st))) }
+    record { fits = omega (arith, all c.args.plan c.requires, pow_mono {i = c.args.plan.header.bl + 8} {j = 10} (omega (arith, shallow c.args.plan c.requires))) }

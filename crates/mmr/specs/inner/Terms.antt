@@ -1,5 +1,5 @@
 -- The standard's terms as the code makes them: the second order is the first's squares, the third the first times the second.
-use Rattle.std.specs.Prelude.{◌≡◌, List, ℕ, ◌-◌, ◌*◌, ◌^◌, ◌<◌, ◌≤◌, length}
+use Rattle.std.specs.Prelude.{◌≡◌, List, ℕ, ◌*◌, ◌^◌, ◌<◌, ◌≤◌, length}
 use Rattle.runs.specs.inner.Loops.{at}
 use Rattle.standard.specs.Mmr.{◌>>◌}
 

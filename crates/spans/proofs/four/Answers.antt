@@ -14,34 +14,34 @@ returns-then-part-lt4 c = record { is = rw (lt-ltb (length c.args.part.now) 4 c.
 pub returns : goal.returns
 returns c =
     let run = c.args.part.now in
-    let known = c.shared_slice_known-4-1.given in
+    let known = c.type_inv.part in
     let enough : 4 ≤ length run = omega (arith, c.if-part-lt4.false) in
     let is = joined_up run (known 0).fits (known 1).fits (known 2).fits (known 3).fits enough in record { is = is; gives = λ h. rw is (given run (known 0).fits (known 1).fits (known 2).fits (known 3).fits h) }
 
 pub overflow_cast-result : goal.overflow_cast-result
 overflow_cast-result c =
-    omega (arith, c.shared_slice_known-1.given 0)
+    omega (arith, c.type_inv.part 0)
 
 pub overflow_cast-result-2 : goal.overflow_cast-result-2
 overflow_cast-result-2 c =
-    omega (arith, c.shared_slice_known-2-1.given 1)
+    omega (arith, c.type_inv.part 1)
 
 pub overflow_add-result : goal.overflow_add-result
 overflow_add-result c =
-    let k = c.shared_slice_known-2-1.given in omega (arith, k 0, k 1)
+    let k = c.type_inv.part in omega (arith, k 0, k 1)
 
 pub overflow_cast-result-3 : goal.overflow_cast-result-3
 overflow_cast-result-3 c =
-    omega (arith, c.shared_slice_known-3-1.given 2)
+    omega (arith, c.type_inv.part 2)
 
 pub overflow_add-result-2 : goal.overflow_add-result-2
 overflow_add-result-2 c =
-    let k = c.shared_slice_known-3-1.given in omega (arith, k 0, k 1, k 2)
+    let k = c.type_inv.part in omega (arith, k 0, k 1, k 2)
 
 pub overflow_cast-result-4 : goal.overflow_cast-result-4
 overflow_cast-result-4 c =
-    omega (arith, c.shared_slice_known-4-1.given 3)
+    omega (arith, c.type_inv.part 3)
 
 pub overflow_add-result-3 : goal.overflow_add-result-3
 overflow_add-result-3 c =
-    let k = c.shared_slice_known-4-1.given in omega (arith, k 0, k 1, k 2, k 3)
+    let k = c.type_inv.part in omega (arith, k 0, k 1, k 2, k 3)

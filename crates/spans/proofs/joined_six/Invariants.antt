@@ -1,6 +1,6 @@
 use mathlib.Core.Path.{◌≡◌}
 use Prim.Native.Nat.{◌-◌, ◌≤◌}
-use Rattle.spans.specs.inner.Spans.{bits_below, six_at, joined_six}
+use Rattle.spans.specs.inner.Spans.{bits_below, six_at}
 use Rattle.spans.proofs.joined_six.Given as goal
 
 -- `spans::joined_six` meets its contract: the bits so far are those of the places that were passed. Assumes nothing.

@@ -1,7 +1,5 @@
-use Prim.Native.Nat.{◌-◌}
 use native.Mathlib.Omega.{arith}
 use Rattle.runs.proofs.Painting.{paint_none, paint_more, paint_all}
-use Rattle.spans.specs.inner.Spans.{looked_up}
 use Rattle.spans.proofs.Fours.{paint_turn, paint_from}
 use Rattle.spans.proofs.look_up.Goals as goal
 

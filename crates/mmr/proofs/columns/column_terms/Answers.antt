@@ -11,15 +11,15 @@ use Rattle.mmr.proofs.columns.column_terms.Goals as goal
 pub terms_of-requires : goal.terms_of-requires
 terms_of-requires c =
     let f = c.args.f in
-    let g = c.requires.format_given in let r = (
-      g.few_orders,
-      record {
+    let g = c.requires.format_given in record {
+      order_bound = g.few_orders;
+      terms_given = record {
         shallow = g.shallow;
         s0_low = code_low f g _ c.luma_code-s0.ensures.1;
         s1_low = code_low f g _ c.code_of-s1.ensures.1;
         s2_low = code_low f g _ c.code_of-s2.ensures.1;
-      },
-    ) in record { order_bound = r.0; terms_given = r.1 }
+      };
+    }
 
 -- the terms of equal codes
 same : (depth n : ℕ) {r : List ℕ} {a b c x y z : ℕ} → a ≡ x → b ≡ y → c ≡ z → Agreed n r (terms depth a b c) → Agreed n r (terms depth x y z)

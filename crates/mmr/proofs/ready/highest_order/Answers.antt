@@ -1,4 +1,3 @@
-use Prim.Native.Nat.{◌-◌}
 use native.Mathlib.Omega.{arith}
 use Rattle.mmr.proofs.Within.{none_higher, one_higher, all_higher}
 use Rattle.mmr.proofs.ready.highest_order.Goals as goal

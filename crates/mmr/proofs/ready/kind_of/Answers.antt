@@ -1,11 +1,10 @@
 -- `mmr::ready::kind_of` meets its contract. Assumes nothing.
-use borrow.Author.Rules.{rules}
 use borrow.Author.Tests.{ne_eqb}
 use mathlib.Core.Path.{◌≡◌, refl, ap, ap₂, ◌∙◌}
 use mathlib.Core.Bool.{Bool, true, false, cond}
 use Prim.Native.Nat.{ℕ}
 use lib.Dec.{eqb}
-use Rattle.mmr.specs.inner.Apart.{narrow_most, wide_most}
+use Rattle.mmr.specs.inner.Apart.{narrow_most}
 use Rattle.mmr.specs.inner.Steps.{polynomial_kind, narrow_kind, wide_kind}
 use Rattle.mmr.specs.inner.Ready.{row_within, no_kind, kind_by}
 use Rattle.mmr.proofs.ready.kind_of.Goals.{After-coefficients_used-used, After-row_within-narrow, After-row_within-wide, After-wide_most, Start}
@@ -16,16 +15,16 @@ abbrev by_tests : ℕ → Bool → Bool → ℕ
 by_tests idc narrow wide = cond (eqb idc 0) (cond narrow polynomial_kind no_kind) (cond (eqb idc 1) (cond narrow narrow_kind (cond wide wide_kind no_kind)) no_kind)
 
 abbrev narrow : After-row_within-wide → After-row_within-narrow
-narrow c = search rules
+narrow c = c.before.before
 
 abbrev used : After-row_within-narrow → After-coefficients_used-used
-used c = search rules
+used c = c.before
 
 abbrev most : After-row_within-wide → After-wide_most
-most c = search rules
+most c = c.before
 
 abbrev start : After-coefficients_used-used → Start
-start c = search rules
+start c = c.before
 
 is_kind : (c : After-row_within-wide) → let a = c.args in by_tests a.idc c.row_within-narrow.result c.row_within-wide.result ≡ kind_by a.d a.idc a.order a.row.now
 unfolding kind_by
@@ -57,30 +56,30 @@ module _ (idc : ℕ) (n w : Bool) where
 
 pub returns-then-narrow : goal.returns-then-narrow
 returns-then-narrow c =
-    let t : After-row_within-wide = search rules in
+    let t : After-row_within-wide = c.before.before in
     polynomial c.args.idc c.row_within-narrow.result c.row_within-wide.result c.if-idc-eq0.true c.if-narrow.true ∙ is_kind t
 
 pub returns-else-narrow : goal.returns-else-narrow
 returns-else-narrow c =
-    let t : After-row_within-wide = search rules in
+    let t : After-row_within-wide = c.before.before in
     broken c.args.idc c.row_within-narrow.result c.row_within-wide.result c.if-idc-eq0.true c.if-narrow.false ∙ is_kind t
 
 pub returns-then-idc-ne-MMR : goal.returns-then-idc-ne-MMR
 returns-then-idc-ne-MMR c =
-    let t : After-row_within-wide = search rules in
+    let t : After-row_within-wide = c.before.before in
     other c.args.idc c.row_within-narrow.result c.row_within-wide.result c.if-idc-eq0.false c.if-idc-ne-MMR.true ∙ is_kind t
 
 pub returns-then-narrow-2 : goal.returns-then-narrow-2
 returns-then-narrow-2 c =
-    let t : After-row_within-wide = search rules in
+    let t : After-row_within-wide = c.before.before.before in
     small c.args.idc c.row_within-narrow.result c.row_within-wide.result c.if-idc-ne-MMR.false c.if-narrow-2.true ∙ is_kind t
 
 pub returns-then-wide : goal.returns-then-wide
 returns-then-wide c =
-    let t : After-row_within-wide = search rules in
+    let t : After-row_within-wide = c.before.before.before.before in
     large c.args.idc c.row_within-narrow.result c.row_within-wide.result c.if-idc-ne-MMR.false c.if-narrow-2.false c.if-wide.true ∙ is_kind t
 
 pub returns-else-wide : goal.returns-else-wide
 returns-else-wide c =
-    let t : After-row_within-wide = search rules in
+    let t : After-row_within-wide = c.before.before.before.before in
     too_large c.args.idc c.row_within-narrow.result c.row_within-wide.result c.if-idc-ne-MMR.false c.if-narrow-2.false c.if-wide.false ∙ is_kind t

@@ -3,7 +3,6 @@ use mathlib.Core.Path.{◌∙◌}
 use Prim.Native.Nat.{◌^◌}
 use lib.IntN.{pos, neg_ℤ, +ℤ_idl}
 use mir.Facts.{to_z-of_z}
-use borrow.Author.Rules.{rules}
 use Rattle.words.proofs.Holding.{Holds, number, literal, sub, sub_asked}
 use Rattle.plan.proofs.Testing.{zero_test}
 use Rattle.mmr.proofs.Within.{between_limits}
@@ -14,12 +13,12 @@ top : (st : Start) → Holds st.args.most (pos st.args.most) (2 ^ 48)
 top st = number st.requires tt
 
 pub overflow_sub-result : goal.overflow_sub-result
-overflow_sub-result c = let st : Start = search rules in
+overflow_sub-result c = let st : Start = c.before in
     sub_asked (literal 0 tt) (top st) tt
 
 pub returns-then-used : goal.returns-then-used
 returns-then-used c =
-    let st : Start = search rules in
+    let st : Start = c.before in
     let e = (sub (literal 0 tt) (top st) tt).is ∙ +ℤ_idl (neg_ℤ (pos c.args.most)) in
     rw (c.if-used.true, e, (top st).is, to_z-of_z c.ranges.z) (between_limits c.args.most c.args.z)
 

@@ -1,4 +1,3 @@
-use Prim.Native.Nat.{◌-◌}
 use native.Mathlib.Omega.{arith}
 use Rattle.plan.proofs.Counting.{none, more, ended}
 use Rattle.plan.proofs.Testing.{back}

@@ -6,7 +6,6 @@ use lib.Dec.{leb, ltb}
 use lib.IntN.{pos, nat_abs}
 use lib.ListN.{get_or}
 use Rattle.plan.specs.Rule7.{every, is_zero, row_places}
-use Rattle.mmr.specs.inner.Ready.{row_within}
 use Rattle.mmr.proofs.ready.row_within.Given as goal
 
 abbrev pub invariant-loop-i : goal.invariant-loop-i

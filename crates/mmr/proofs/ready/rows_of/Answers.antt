@@ -1,5 +1,4 @@
 use mathlib.Core.Path.{refl}
-use Prim.Native.Nat.{◌-◌}
 use native.Mathlib.Omega.{arith}
 use Rattle.mmr.proofs.Within.{rows_none, rows_more, rows_all}
 use Rattle.mmr.proofs.ready.rows_of.Goals as goal

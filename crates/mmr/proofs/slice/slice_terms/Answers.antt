@@ -8,15 +8,15 @@ use Rattle.mmr.proofs.slice.slice_terms.Goals as goal
 pub terms_of-requires : goal.terms_of-requires
 terms_of-requires c =
     let f = c.args.f in
-    let g = c.requires in let r = (
-      g.few_orders,
-      record {
+    let g = c.requires in record {
+      order_bound = g.few_orders;
+      terms_given = record {
         shallow = g.shallow;
         s0_low = code_low f g _ c.code_of-s0.ensures.1;
         s1_low = code_low f g _ c.code_of-s1.ensures.1;
         s2_low = code_low f g _ c.code_of-s2.ensures.1;
-      },
-    ) in record { order_bound = r.0; terms_given = r.1 }
+      };
+    }
 
 pub returns : goal.returns
 unfolding slice_terms

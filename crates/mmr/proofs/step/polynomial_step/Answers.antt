@@ -1,8 +1,7 @@
 -- `mmr::step::polynomial_step` meets its contract: every number on the way is a word that holds it, within a bound. Assumes nothing.
-use borrow.Author.Rules.{rules}
 use mathlib.Core.Path.{ap, ◌∙◌}
 use Prim.Native.Nat.{ℕ, ◌^◌}
-use lib.IntN.{ℤ, pos, ◌+ℤ◌, ◌*ℤ◌}
+use lib.IntN.{pos, ◌+ℤ◌, ◌*ℤ◌}
 use mir.Syntax.{w64}
 use mir.Val.{of_z}
 use Rattle.words.proofs.Holding.{Holds, bounded, number, literal, add, add_asked, mul, mul_asked}
@@ -24,34 +23,34 @@ square : (c : After-high-square) → Holds c.high-square.result (pos c.high-squa
 square c = number c.high-square.ensures.1 tt
 
 pub overflow_mul-row : goal.overflow_mul-row
-overflow_mul-row c = let st : Start = search rules in
+overflow_mul-row c = let st : Start = c.before.before in
     mul_asked (row st 0) (literal 1048576 tt) tt
 
 pub overflow_mul-row-2 : goal.overflow_mul-row-2
-overflow_mul-row-2 c = let st : Start = search rules in
+overflow_mul-row-2 c = let st : Start = c.before.before.before in
     mul_asked (row st 1) (linear st) tt
 
 pub overflow_add-row : goal.overflow_add-row
 overflow_add-row c =
-    let st : Start = search rules in
+    let st : Start = c.before.before.before in
     add_asked (mul (row st 0) (literal 1048576 tt) tt) (mul (row st 1) (linear st) tt) tt
 
 pub overflow_mul-row-3 : goal.overflow_mul-row-3
 overflow_mul-row-3 c =
-    let st : Start = search rules in
-    let q : After-high-square = search rules in
+    let st : Start = c.before.before.before.before in
+    let q : After-high-square = c.before.before.before in
     mul_asked (row st 2) (square q) tt
 
 pub overflow_add-row-2 : goal.overflow_add-row-2
 overflow_add-row-2 c =
-    let st : Start = search rules in
-    let q : After-high-square = search rules in
+    let st : Start = c.before.before.before.before in
+    let q : After-high-square = c.before.before.before in
     add_asked (add (mul (row st 0) (literal 1048576 tt) tt) (mul (row st 1) (linear st) tt) tt) (mul (row st 2) (square q) tt) tt
 
 pub returns : goal.returns
 returns c =
-    let st : Start = search rules in
-    let q : After-high-square = search rules in
+    let st : Start = c.before.before.before.before.before in
+    let q : After-high-square = c.before.before.before.before in
     let sum = add (add (mul (row st 0) (literal 1048576 tt) tt) (mul (row st 1) (linear st) tt) tt) (mul (row st 2) (square q) tt) tt in
     let r = c.args.row.now in
     c.cut_at.ensures

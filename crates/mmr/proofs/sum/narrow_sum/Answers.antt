@@ -1,6 +1,5 @@
-use borrow.Author.Rules.{rules}
 use mathlib.Core.Path.{◌≡◌, ap, ◌∙◌}
-use Prim.Native.Nat.{◌-◌, ◌*◌, ◌^◌, ◌≤◌}
+use Prim.Native.Nat.{◌*◌, ◌^◌, ◌≤◌}
 use native.Mathlib.Nat.{le_trans, mul-le-mul_right}
 use native.Mathlib.Omega.{arith}
 use lib.IntN.{pos}
@@ -21,30 +20,29 @@ w il = bounded (il.requires.coefficient il.loop-i.i) tt
 t : (il : In-loop-i) → Holds (at il.args.ts.now il.loop-i.i) (pos (at il.args.ts.now il.loop-i.i)) (2 ^ 20)
 t il = number (il.requires.term il.loop-i.i) tt
 
-so_far : (lp : At-loop-i) → Holds lp.loop-i.sum (whole_sum (coef lp.args.row.now) (at lp.args.ts.now) lp.loop-i.i) (22 * (narrow_most * 2 ^ 20))
+so_far : (lp : At-loop-i) → Holds lp.loop-i.sum-bits (whole_sum (coef lp.args.row.now) (at lp.args.ts.now) lp.loop-i.i) (22 * (narrow_most * 2 ^ 20))
 so_far lp =
-    let st = lp in
-    let l : lp.loop-i.i ≤ 22 = omega (arith, lp.loop-i.invariant.0, st.requires.few) in
+    let l : lp.loop-i.i ≤ 22 = omega (arith, lp.loop-i.invariant.0, lp.requires.few) in
     record {
       is = lp.loop-i.invariant.1;
-      le = le_trans (whole_sum_le (coef st.args.row.now) (at st.args.ts.now) narrow_most st.requires.coefficient st.requires.term lp.loop-i.i) (mul-le-mul_right (narrow_most * 2 ^ 20) l);
+      le = le_trans (whole_sum_le (coef lp.args.row.now) (at lp.args.ts.now) narrow_most lp.requires.coefficient lp.requires.term lp.loop-i.i) (mul-le-mul_right (narrow_most * 2 ^ 20) l);
     }
 
 pub overflow_mul-sum : goal.overflow_mul-sum
 overflow_mul-sum c =
-    let il : In-loop-i = search rules in
+    let il : In-loop-i = c.before.before.before.before in
     mul_asked (w il) (t il) tt
 
 pub overflow_add-sum : goal.overflow_add-sum
 overflow_add-sum c =
-    let il : In-loop-i = search rules in
-    add_asked (so_far c) (mul (w il) (t il) tt) tt
+    let il : In-loop-i = c.before.before.before.before in
+    add_asked (so_far c.before.before.before.before.before) (mul (w il) (t il) tt) tt
 
 pub loop-i-preserved : goal.loop-i-preserved
 loop-i-preserved c =
-    let il : In-loop-i = search rules in
+    let il : In-loop-i = c.before.before.before.before in
     let a = c.args in
-    (omega arith, (add (so_far c) (mul (w il) (t il) tt) tt).is ∙ whole_more (coef a.row.now) (at a.ts.now) c.loop-i.i)
+    (omega arith, (add (so_far c.before.before.before.before.before) (mul (w il) (t il) tt) tt).is ∙ whole_more (coef a.row.now) (at a.ts.now) c.loop-i.i)
 
 pub returns : goal.returns
 returns c =

@@ -1,4 +1,3 @@
-use borrow.Author.Rules.{rules}
 use Prim.Native.Nat.{◌*◌, ◌^◌, ◌≤◌}
 use native.Mathlib.Omega.{arith}
 use lib.Pow.{pow_mono}
@@ -11,10 +10,10 @@ both st = product_le st.args.depth st.args.x st.args.y st.requires.1 st.requires
 
 pub overflow_mul-x : goal.overflow_mul-x
 overflow_mul-x c =
-    let st : Start = search rules in
+    let st : Start = c in
     omega (arith, both st, pow_mono {i = 2 * c.args.depth} {j = 20} (omega arith))
 
 pub raise-requires : goal.raise-requires
 raise-requires c =
-    let st : Start = search rules in
+    let st : Start = c in
     (omega arith, both st)

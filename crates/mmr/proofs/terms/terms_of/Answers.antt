@@ -1,5 +1,5 @@
 use mathlib.Core.Path.{ap₂, ◌∙◌}
-use Prim.Native.Nat.{◌+◌, ◌-◌}
+use Prim.Native.Nat.{◌+◌}
 use native.Mathlib.Omega.{arith}
 use Rattle.mmr.specs.inner.Terms.{high_of}
 use Rattle.mmr.proofs.Listing.{squared, cubed, fewer, agreed_more}

@@ -1,6 +1,5 @@
 use mathlib.Core.Path.{sym, ◌∙◌}
 use native.Mathlib.Omega.{arith}
-use borrow.Author.Rules.{rules}
 use borrow.Author.Tests.{eqb-true}
 use Rattle.rows.proofs.Lending.{row_of, both}
 use Rattle.rows.proofs.Standing.{four_stand, kept_next, one_next, four_next}

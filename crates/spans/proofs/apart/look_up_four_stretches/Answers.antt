@@ -1,4 +1,3 @@
-use Prim.Native.Nat.{◌-◌}
 use native.Mathlib.Omega.{arith}
 use Rattle.spans.proofs.InStep.{none_of_each, more_of_each, all_of_each, turn_within}
 use Rattle.spans.proofs.apart.look_up_four_stretches.Goals as goal

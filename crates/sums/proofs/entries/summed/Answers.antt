@@ -9,8 +9,8 @@ returns c = c.sum_of.ensures
 
 pub overflow_cast-s : goal.overflow_cast-s
 overflow_cast-s c =
-    omega (arith, c.shared_slice_known-3-1.given c.args.i)
+    omega (arith, c.type_inv.base c.args.i)
 
 pub overflow_cast-e : goal.overflow_cast-e
 overflow_cast-e c =
-    omega (arith, c.shared_slice_known-4-1.given c.args.i)
+    omega (arith, c.type_inv.enhancement c.args.i)

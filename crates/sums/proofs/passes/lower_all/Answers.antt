@@ -1,4 +1,3 @@
-use Prim.Native.Nat.{◌-◌}
 use native.Mathlib.Omega.{arith}
 use Rattle.runs.proofs.Painting.{paint_none, paint_more, paint_all}
 use Rattle.sums.specs.inner.Sums.{lower_by, lowered_at}

@@ -1,8 +1,6 @@
-use Prim.Native.Nat.{◌-◌}
 use native.Mathlib.Omega.{arith}
 use Rattle.runs.proofs.Painting.{paint_none, paint_more, paint_all}
 use Rattle.spans.proofs.Fours.{paint_begun, paint_turn, paint_from}
-use Rattle.sums.specs.inner.Sums.{summed}
 use Rattle.sums.proofs.passes.sum_up.Goals as goal
 
 pub loop-t-preserved : goal.loop-t-preserved
