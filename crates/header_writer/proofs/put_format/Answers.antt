@@ -3,6 +3,7 @@ use lib.ListN.{length-set}
 use Rattle.header_writer.proofs.Framing.{made_format}
 use Rattle.header_writer.proofs.put_format.Goals as goal
 
+-- `put_format` meets its contract. Assumes nothing.
 pub bounds-out-1 : goal.bounds-out-1
 bounds-out-1 c =
     simp length-set (omega arith)

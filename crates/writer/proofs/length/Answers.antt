@@ -3,7 +3,6 @@ use Rattle.writer.proofs.Answers.{bad_plan, no_block, has_block, no_length, has-
 use Rattle.writer.proofs.length.Goals as goal
 
 -- `length` meets its contract. Assumes nothing.
--- ways back
 pub returns-then-not-passes : goal.returns-then-not-passes
 returns-then-not-passes c = let r = no_length c.args.plan c.args.version (bad_plan c.args.plan c.args.version (sym c.passes.ensures ∙ c.if-not-passes.true)) in record { value = r.0; limits = r.1 }
 

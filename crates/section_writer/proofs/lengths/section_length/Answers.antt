@@ -6,7 +6,6 @@ use Rattle.section_writer.proofs.Sizes.{none_counted, one_counted, all_counted, 
 use Rattle.section_writer.proofs.lengths.section_length.Goals.{Else-not-carries}
 use Rattle.section_writer.proofs.lengths.section_length.Goals as goal
 
--- ways back
 few : (e : Else-not-carries) → e.args.c.n ≤ most_n
 few e = omega arith
 
