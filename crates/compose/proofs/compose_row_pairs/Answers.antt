@@ -1,19 +1,11 @@
 -- `compose::compose_row_pairs` meets its contract: a refusal writes nothing, and acceptance gives what the planes mean. Assumes nothing.
-use mathlib.Core.Path.{◌≡◌, sym, ◌∙◌}
-use mathlib.Core.Bool.{true, false}
-use mathlib.Core.List.{List}
-use Prim.Native.Nat.{ℕ}
+use mathlib.Core.Path.{sym, ◌∙◌}
 use lib.ListN.{length}
 use native.Mathlib.Omega.{arith}
-use Rattle.runs.proofs.Parts.{part}
-use Rattle.plan.specs.declared.Plan.{Plan}
 use Rattle.plan.proofs.Facts.{header_facts}
-use Rattle.rules.specs.Rules.{given, used, refusal}
-use Rattle.planes.specs.inner.ByTables.{enhanced_picture, plain_picture}
-use Rattle.compose.specs.Composing.{answer, output_after}
-use Rattle.compose.specs.inner.Seen.{marks_seen}
+use Rattle.rules.specs.Rules.{given}
 use Rattle.compose.proofs.Meaning.{plain_painted, enhanced-painted, plain_composed, enhanced_composed}
-use Rattle.compose.proofs.Accepting.{Ends, refused, written, all_named, kept_seen, rows_of, passed, in_output, in_base, in_enhancement}
+use Rattle.compose.proofs.Accepting.{refused, written, all_named, kept_seen, rows_of, passed, in_output, in_base, in_enhancement}
 use Rattle.compose.proofs.compose_row_pairs.Goals as goal
 
 pub returns-then-number-ne0 : goal.returns-then-number-ne0
@@ -35,8 +27,8 @@ returns-then-is_used c =
     let z = sym c.if-number-ne0.false ∙ c.refusal_of-number.ensures in
     let on = sym c.is_used.ensures ∙ c.if-is_used.true in
     let e = written g a.marks.now a.output.now _ _ _ z (λ k. all_named g a.marks.now k on)
-        (c.enhanced_planes.ensures ∙ enhanced-painted a.plan (rows_of g) a.output.now (in_output g _ z) (passed g _ z).fits a.base.now (in_base g _ z) a.enhancement.now (in_enhancement g _ z on))
-        (λ i. enhanced_composed a.plan a.base.now a.enhancement.now i on) in
+    (c.enhanced_planes.ensures ∙ enhanced-painted a.plan (rows_of g) a.output.now (in_output g _ z) (passed g _ z).fits a.base.now (in_base g _ z) a.enhancement.now (in_enhancement g _ z on))
+    (λ i. enhanced_composed a.plan a.base.now a.enhancement.now i on) in
     record { answers = e.0; writes = e.1 }
 
 pub returns : goal.returns
@@ -46,6 +38,6 @@ returns c =
     let z = sym c.if-number-ne0.false ∙ c.refusal_of-number.ensures in
     let off = sym c.is_used.ensures ∙ c.if-is_used.false in
     let e = written g a.marks.now a.output.now _ _ _ z (λ k. kept_seen g a.marks.now k off _ c.marks_seen-seen.ensures.is)
-        (c.plain_planes.ensures ∙ plain_painted a.plan (rows_of g) a.output.now (in_output g _ z) (passed g _ z).fits a.base.now (in_base g _ z) _)
-        (λ i. plain_composed a.plan a.base.now a.enhancement.now i off) in
+    (c.plain_planes.ensures ∙ plain_painted a.plan (rows_of g) a.output.now (in_output g _ z) (passed g _ z).fits a.base.now (in_base g _ z) _)
+    (λ i. plain_composed a.plan a.base.now a.enhancement.now i off) in
     record { answers = e.0; writes = e.1 }
