@@ -4,7 +4,7 @@ use mathlib.Core.Path.{◌≡◌, refl, sym, ap, ap₂, subst, ◌∙◌}
 use mathlib.Core.Bool.{Bool, true, false, cond}
 use mathlib.Core.List.{List, []}
 use mathlib.Core.Logic.{⊎_elim}
-use Prim.Native.Nat.{ℕ, ◌+◌, ◌-◌, ◌*◌, ◌^◌, ◌<◌, ◌≤◌}
+use Prim.Native.Nat.{ℕ, ◌+◌, ◌*◌, ◌^◌, ◌<◌, ◌≤◌}
 use native.Mathlib.Omega.{arith}
 use lib.Dec.{eqb}
 use lib.ListN.{length, get_or, get_or-eq_default}
@@ -24,7 +24,7 @@ use Rattle.plan.specs.Ranges.{bl_depth, hdr_depth}
 use Rattle.plan.specs.Rule7.{fitting}
 use Rattle.plan.specs.Tables.{has_mmr}
 use Rattle.rules.specs.Rules.{Source, by_plan, by_table, Given, extent, names, rules}
-use Rattle.rules.proofs.Accepting.{SourceFits, Accepted, accepted}
+use Rattle.rules.proofs.Accepting.{SourceFits, Accepted}
 use Rattle.compose.specs.Composing.{mapped_at, residual_at, looked_up_at, composed_by, composed_at, composes}
 use Rattle.compose.proofs.Meaning.{chroma_alone}
 use Rattle.filling.specs.Filling.{part_component, table_entry, filled}
