@@ -5,7 +5,7 @@ use Rattle.refusals.specs.Refusals.{Rule, rule, first_met, Outcome, granted, den
 use Rattle.picture.specs.Picture.{pair_at}
 use Rattle.plan.specs.declared.Plan.{Plan}
 use Rattle.plan.specs.Rule7.{fitting}
-use Rattle.rules.specs.Rules.{Given, given, given_table, extent, names, rules}
+use Rattle.rules.specs.Rules.{Given, given, given_table, extent, rules}
 use Rattle.marks.specs.Marks.{waits, base_only, full_at}
 use Rattle.compose.specs.Composing.{makes_full, composes, composed_by}
 use Rattle.jobs.specs.declared.Opened.{Opened}
