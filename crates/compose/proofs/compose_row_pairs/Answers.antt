@@ -17,14 +17,16 @@ returns-then-number-ne0 c =
 pub overflow_add-r : goal.overflow_add-r
 overflow_add-r c =
     let a = c.args in
-    let p = passed (given a.plan a.first a.count a.base.now a.enhancement.now) (length a.output.now) (sym c.if-number-ne0.false ∙ c.refusal_of-number.ensures) in
+    let none : c.refusal_of-number.result ≡ 0 = omega arith in
+    let p = passed (given a.plan a.first a.count a.base.now a.enhancement.now) (length a.output.now) (sym none ∙ c.refusal_of-number.ensures) in
     omega (arith, p.sizes.pairs, (header_facts _ p.fits).few_pairs)
 
 pub returns-then-is_used : goal.returns-then-is_used
 returns-then-is_used c =
     let a = c.args in
+    let none : c.refusal_of-number.result ≡ 0 = omega arith in
     let g = given a.plan a.first a.count a.base.now a.enhancement.now in
-    let z = sym c.if-number-ne0.false ∙ c.refusal_of-number.ensures in
+    let z = sym none ∙ c.refusal_of-number.ensures in
     let on = sym c.is_used.ensures ∙ c.if-is_used.true in
     let e = written g a.marks.now a.output.now _ _ _ z (λ k. all_named g a.marks.now k on)
     (c.enhanced_planes.ensures ∙ enhanced-painted a.plan (rows_of g) a.output.now (in_output g _ z) (passed g _ z).fits a.base.now (in_base g _ z) a.enhancement.now (in_enhancement g _ z on))
@@ -34,8 +36,9 @@ returns-then-is_used c =
 pub returns : goal.returns
 returns c =
     let a = c.args in
+    let none : c.refusal_of-number.result ≡ 0 = omega arith in
     let g = given a.plan a.first a.count a.base.now a.enhancement.now in
-    let z = sym c.if-number-ne0.false ∙ c.refusal_of-number.ensures in
+    let z = sym none ∙ c.refusal_of-number.ensures in
     let off = sym c.is_used.ensures ∙ c.if-is_used.false in
     let e = written g a.marks.now a.output.now _ _ _ z (λ k. kept_seen g a.marks.now k off _ c.marks_seen-seen.ensures.is)
     (c.plain_planes.ensures ∙ plain_painted a.plan (rows_of g) a.output.now (in_output g _ z) (passed g _ z).fits a.base.now (in_base g _ z) _)

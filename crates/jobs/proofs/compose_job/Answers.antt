@@ -43,27 +43,31 @@ pub returns-then-refusal-ne0 : goal.returns-then-refusal-ne0
 returns-then-refusal-ne0 c =
     let a = c.args in
     let j = job a.plan a.open_ticket a.ticket a.first a.count a.base.now a.enhancement.now in
+    let ticketed : a.ticket ≡ a.open_ticket = omega arith in
     let fit = eqb-true _ _ (sym c.is_marked.ensures ∙ c.if-not-is_marked.false) in
     let number = number_is j.work (length a.output.now) _ _ c.number-refusal.ensures c.compose_row_pairs-composed.ensures.answers in
-    let e = composing_refused j a.output.now a.marks.now c.if-ticket-open_ticket.false fit c.number-refusal.result _ number c.if-refusal-ne0.true c.compose_row_pairs-composed.ensures.writes in
+    let e = composing_refused j a.output.now a.marks.now ticketed fit c.number-refusal.result _ number c.if-refusal-ne0.true c.compose_row_pairs-composed.ensures.writes in
     record { answers = e.0; writes = e.1.0; marking = e.1.1 }
 
 pub overflow_add-last : goal.overflow_add-last
 overflow_add-last c =
     let a = c.args in
     let j = job a.plan a.open_ticket a.ticket a.first a.count a.base.now a.enhancement.now in
+    let passed : c.number-refusal.result ≡ 0 = omega arith in
     let number = number_is j.work (length a.output.now) _ _ c.number-refusal.ensures c.compose_row_pairs-composed.ensures.answers in
-    let i = inside j.work (length a.output.now) _ number c.if-refusal-ne0.false in
+    let i = inside j.work (length a.output.now) _ number passed in
     omega (arith, (header_facts _ i.fits).few_pairs, i.sizes.pairs)
 
 pub returns : goal.returns
 returns c =
     let a = c.args in
     let j = job a.plan a.open_ticket a.ticket a.first a.count a.base.now a.enhancement.now in
+    let ticketed : a.ticket ≡ a.open_ticket = omega arith in
     let fit = eqb-true _ _ (sym c.is_marked.ensures ∙ c.if-not-is_marked.false) in
+    let passed : c.number-refusal.result ≡ 0 = omega arith in
     let number = number_is j.work (length a.output.now) _ _ c.number-refusal.ensures c.compose_row_pairs-composed.ensures.answers in
-    let i = inside j.work (length a.output.now) _ number c.if-refusal-ne0.false in
-    let e = composing_done j a.output.now a.marks.now c.if-ticket-open_ticket.false fit _ c.waiting-left.result c.base_only-unfilled.result _ _
-    (sym number ∙ c.if-refusal-ne0.false) c.makes_full-full.ensures c.compose_row_pairs-composed.ensures.writes
+    let i = inside j.work (length a.output.now) _ number passed in
+    let e = composing_done j a.output.now a.marks.now ticketed fit _ c.waiting-left.result c.base_only-unfilled.result _ _
+    (sym number ∙ passed) c.makes_full-full.ensures c.compose_row_pairs-composed.ensures.writes
     (c.mark.ensures ∙ all-marked _ _ _ _ (omega arith) (omega (arith, i.sizes.pairs, fit))) c.waiting-left.ensures c.base_only-unfilled.ensures in
     record { answers = e.0; writes = e.1.0; marking = e.1.1 }
