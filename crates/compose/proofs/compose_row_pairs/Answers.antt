@@ -1,5 +1,5 @@
 -- `compose::compose_row_pairs` meets its contract: a refusal writes nothing, and acceptance gives what the planes mean. Assumes nothing.
-use mathlib.Core.Path.{sym, ◌∙◌}
+use mathlib.Core.Path.{◌≡◌, sym, ◌∙◌}
 use lib.ListN.{length}
 use native.Mathlib.Omega.{arith}
 use Rattle.plan.proofs.Facts.{header_facts}
