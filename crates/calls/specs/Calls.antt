@@ -6,10 +6,10 @@ use Rattle.plan.specs.declared.Plan.{Plan}
 use Rattle.jobs.specs.Jobs.{Job, job, table_job, says, opened_says}
 use Rattle.filling.specs.Filling.{says as filling-says}
 use Rattle.table_jobs.specs.TableJobs.{says as table-says}
-use Rattle.jobs.proofs.open_picture.Reads as opening
-use Rattle.jobs.proofs.compose_job.Reads as composing
-use Rattle.filling.proofs.fill_table.Reads as filling
-use Rattle.table_jobs.proofs.compose_table_job.Reads as looking-up
+use Rattle.calls.specs.promises.open_picture as opening
+use Rattle.calls.specs.promises.compose_job as composing
+use Rattle.calls.specs.promises.fill_table as filling
+use Rattle.calls.specs.promises.compose_table_job as looking-up
 
 -- the memory that jobs write
 pub record Memory : Type 0 where

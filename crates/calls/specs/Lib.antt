@@ -1,3 +1,5 @@
+pub mod Lent
+pub mod promises
 pub mod Calls
 pub mod Settled
 pub mod Alike

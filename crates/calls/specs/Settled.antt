@@ -1,17 +1,17 @@
 -- For every input the promise of each call that reads or writes something of a user's leaves one answer, and one content of each run
 -- that it was lent: two outcomes that the promise allows are equal. A promise is the call's generated `Post`, made of its own contract.
 use Rattle.std.specs.Prelude.{◌≡◌, List, ℕ}
-use Rattle.rule_seven.proofs.passes.Reads as passes-promise
-use Rattle.plan.proofs.empty.Reads as empty-promise
-use Rattle.block.proofs.read.Reads as read-promise
-use Rattle.writer.proofs.write.Reads as write-promise
-use Rattle.writer.proofs.length.Reads as length-promise
-use Rattle.compose.proofs.compose_row_pairs.Reads as compose-row-pairs-promise
-use Rattle.jobs.proofs.open_picture.Reads as open-picture-promise
-use Rattle.jobs.proofs.compose_job.Reads as compose-job-promise
-use Rattle.filling.proofs.fill_table.Reads as fill-table-promise
-use Rattle.table_compose.proofs.compose_by_table.Reads as compose-by-table-promise
-use Rattle.table_jobs.proofs.compose_table_job.Reads as compose-table-job-promise
+use Rattle.calls.specs.promises.passes as passes-promise
+use Rattle.calls.specs.promises.empty as empty-promise
+use Rattle.calls.specs.promises.read as read-promise
+use Rattle.calls.specs.promises.write as write-promise
+use Rattle.calls.specs.promises.length as length-promise
+use Rattle.calls.specs.promises.compose_row_pairs as compose-row-pairs-promise
+use Rattle.calls.specs.promises.open_picture as open-picture-promise
+use Rattle.calls.specs.promises.compose_job as compose-job-promise
+use Rattle.calls.specs.promises.fill_table as fill-table-promise
+use Rattle.calls.specs.promises.compose_by_table as compose-by-table-promise
+use Rattle.calls.specs.promises.compose_table_job as compose-table-job-promise
 use Rattle.calls.specs.Calls.{Ended, marks_opened, table_filled, done, table_done}
 
 -- of a promise: two calls that were handed the same answer the same, and leave the same in a run that they were lent

@@ -1,6 +1,8 @@
 // Calls that have ended as their promises say. The functions compute nothing: their promises are the theorems.
 #![tactic(auto)]
 
+pub mod promises; // each call once more, under its promise
+
 ghost use Rattle.calls.specs.Settled.{Settled};
 ghost use Rattle.calls.specs.inner.Leaves.{LeavesSettled};
 ghost use Rattle.calls.specs.Alike.{BothCallsAlike};

@@ -6,9 +6,9 @@ use Rattle.plan.specs.declared.Plan.{Plan}
 use Rattle.frame.specs.Frame.{trailer}
 use Rattle.block.specs.declared.Reading.{Reading}
 use Rattle.block.specs.Reading.{tail}
-use Rattle.block.proofs.read.Reads as reading
+use Rattle.calls.specs.promises.read as reading
 use Rattle.writer.specs.Writing.{block_length, says}
-use Rattle.writer.proofs.write.Reads as writing
+use Rattle.calls.specs.promises.write as writing
 use Rattle.calls.specs.Calls.{Ended}
 
 -- read(bytes)

@@ -1,0 +1,13 @@
+-- jobs::compose_job(plan, open_ticket, ticket, first, count, base, enhancement, output, marks)
+use Rattle.calls.specs.Lent.{Lent}
+use Rattle.jobs.specs.Jobs.{job, job_answer, marks_after, output_after, says}
+use Rattle.jobs.specs.declared.Answer.{Answer}
+use Rattle.plan.specs.declared.Plan.{Plan}
+use Rattle.std.specs.Prelude.{List, ℕ, ◌≡◌}
+
+abbrev pub Keeps : Plan → ℕ → ℕ → ℕ → ℕ → List ℕ → List ℕ → List ℕ → List ℕ → Answer → List ℕ → List ℕ → Type 0
+Keeps plan open_ticket ticket first count base enhancement output marks result output' marks' =
+    (says result ≡ job_answer (job plan open_ticket ticket first count base enhancement) output marks) × ((output' ≡ output_after (job plan open_ticket ticket first count base enhancement) output marks) × (marks' ≡ marks_after (job plan open_ticket ticket first count base enhancement) output marks))
+
+abbrev pub Post : (κs : Unit {0}) → (Plan × (ℕ × (ℕ × (ℕ × (ℕ × (Lent × (Lent × (Lent × (Lent × Unit {0}))))))))) → Answer → (Plan × (ℕ × (ℕ × (ℕ × (ℕ × (Lent × (Lent × (Lent × (Lent × Unit {0}))))))))) → Type 0
+Post κs a r s = Keeps a.0 a.1.0 a.1.1.0 a.1.1.1.0 a.1.1.1.1.0 a.1.1.1.1.1.0.now a.1.1.1.1.1.1.0.now a.1.1.1.1.1.1.1.0.now a.1.1.1.1.1.1.1.1.0.now r s.1.1.1.1.1.1.1.0.now s.1.1.1.1.1.1.1.1.0.now
