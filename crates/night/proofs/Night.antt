@@ -45,6 +45,7 @@ cleared p marks h = rw h
 -- ---- jobs that are as asked
 module _ {P : Job → Type 0} where
   asked_of : {j : Job} {js : List Job} → All P js → Sent j js → P j
+  asked_of none s = elim s [ ]
   asked_of (more k ks) here = k
   asked_of (more k ks) (later s) = asked_of ks s
 
