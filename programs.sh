@@ -41,7 +41,8 @@ about() {
   ' - "$repository/docs/TIMES.md"
 }
 
-# Whether the program is there, passed its own run (then a stamp is kept), and nothing of crates/ is newer, as after a pull.
+# Whether the program is there, passed its own run (then a stamp is kept), and nothing of crates/ is newer, as after a
+# pull.
 is_built() {
   program=$repository/crates/$1/out/$1
   stamp=$repository/target/stamp/$1
@@ -231,8 +232,8 @@ as_text() {
   is_called "$1"
 }
 
-# Sets $word to NAME of a file to be written, or to what stands for it: another in its folder, which `put_in_place` moves
-# to NAME. Where NAME.part is in the way, this one's is so too.
+# Sets $word to NAME of a file to be written, or to what stands for it: another in its folder, which `put_in_place`
+# moves to NAME. Where NAME.part is in the way, this one's is so too.
 as_text_out() {
   word=$1
   ! is_text "$1" || return 0

@@ -6,7 +6,8 @@ enum { BLOCKS = 6 };
 /* each of the blocks, by its name, plan, version and length */
 void each_block(void (*show)(const char *name, const Plan *plan, uint16_t version, size_t length));
 
-/* ends the process where two writers leave different bytes, write after the block, or do not refuse a slice too short */
+/* ends the process where two writers leave different bytes, write after the block, or do not refuse a slice that is
+   too short */
 void compare_writers(Writer *const writers[], int n, const Plan *plan, uint16_t version, size_t length);
 
 /* the nanoseconds a block of each writer in each of the interleaved runs */

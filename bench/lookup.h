@@ -88,8 +88,8 @@ static Spans spans_of(const Header *h, size_t first, size_t count)
     return (Spans){{4 * a, 4 * n + a, 5 * n + a}, {4 * b, 4 * n + b, 5 * n + b}};
 }
 
-/* Rule 11. The limit is a power of two, so the samples may be joined instead of compared. Those of the row pairs are six
-   runs of equal length, four of luma; gone over in step they come faster from memory than one after the other. */
+/* Rule 11. The limit is a power of two, so the samples may be joined instead of compared. Those of the row pairs are
+   six runs of equal length, four of luma; gone over in step they come faster from memory than one after the other. */
 static int some_large(const uint16_t *run, const Spans *s, uint16_t limit)
 {
     size_t n = s->to[1] - s->from[1];

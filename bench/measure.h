@@ -10,8 +10,8 @@ extern uint8_t marks[MOST_PAIRS];
    of a job */
 void compare(Way *const ways[], int n, const Plan *plan, size_t step);
 
-/* the nanoseconds a sample of each way in each of the interleaved runs; where `step` is AGAIN, of the job of the first row
-   pair, sent as often as there are row pairs, so that its samples are in the caches */
+/* the nanoseconds a sample of each way in each of the interleaved runs; where `step` is AGAIN, of the job of the first
+   row pair, sent as often as there are row pairs, so that its samples are in the caches */
 enum { AGAIN = 0 };
 void measure(Way *const ways[], int n, int runs, const Plan *plan, size_t step, double times[n][runs]);
 

@@ -1,5 +1,6 @@
 /* What `run` runs: the proved code against clause-by-clause C, C with tables, and memcpy, the proved table job against
-   C that is lent the same table, and the proved writer against C. Prints tables in Markdown: nanoseconds a sample or a block, and ratios. Exits 1 where outputs differ. */
+   C that is lent the same table, and the proved writer against C. Prints tables in Markdown: nanoseconds a
+   sample or a block, and ratios. Exits 1 where outputs differ. */
 #include "blocks.h"
 #include "late.h"
 #include "rows.h"
