@@ -20,7 +20,7 @@ use Rattle.filling.specs.declared.Filling.TheVariants as filled
 use Rattle.filling.specs.Filling as filling
 use Rattle.table_jobs.specs.declared.TableAnswer.{TableAnswer}
 use Rattle.table_jobs.specs.declared.TableAnswer.TheVariants as looked_up
-use Rattle.table_jobs.specs.TableJobs as table-jobs
+use Rattle.table_jobs.specs.TableJobs as table_jobs
 use Rattle.calls.specs.Settled.{Settled}
 use Rattle.calls.specs.inner.Leaves.{LeavesSettled}
 
@@ -66,7 +66,7 @@ one_filled filled.Filled (filled.Refused k) e = absurd (true≢false (sym (same_
 one_filled (filled.Refused k) filled.Filled e = absurd (true≢false (same_case e))
 one_filled (filled.Refused k) (filled.Refused l) e = ap filled.Refused (same_number e)
 
-one_table_job : (r r' : TableAnswer) → table-jobs.says r ≡ table-jobs.says r' → r ≡ r'
+one_table_job : (r r' : TableAnswer) → table_jobs.says r ≡ table_jobs.says r' → r ≡ r'
 one_table_job (looked_up.Done n u) (looked_up.Done m v) e = ap₂ looked_up.Done (same_value e) (second_value e)
 one_table_job (looked_up.Done n u) (looked_up.Refused k) e = absurd (true≢false (sym (same_case e)))
 one_table_job (looked_up.Refused k) (looked_up.Done n u) e = absurd (true≢false (same_case e))

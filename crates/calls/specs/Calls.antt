@@ -4,12 +4,12 @@ use Rattle.std.specs.Prelude.{List, ℕ}
 use Rattle.refusals.specs.Refusals.{Outcome}
 use Rattle.plan.specs.declared.Plan.{Plan}
 use Rattle.jobs.specs.Jobs.{Job, job, table_job, says, opened_says}
-use Rattle.filling.specs.Filling.{says as filling-says}
-use Rattle.table_jobs.specs.TableJobs.{says as table-says}
+use Rattle.filling.specs.Filling.{says as filling_says}
+use Rattle.table_jobs.specs.TableJobs.{says as table_says}
 use Rattle.calls.specs.promises.open_picture as opening
 use Rattle.calls.specs.promises.compose_job as composing
 use Rattle.calls.specs.promises.fill_table as filling
-use Rattle.calls.specs.promises.compose_table_job as looking-up
+use Rattle.calls.specs.promises.compose_table_job as looking_up
 
 -- the memory that jobs write
 pub record Memory : Type 0 where
@@ -59,7 +59,7 @@ module _ (c : FillCall) where
   table_filled = c.left.1.0.now
 
   abbrev pub filling_said : Outcome
-  filling_said = filling-says c.answered
+  filling_said = filling_says c.answered
 
 -- a call of one of the two jobs: what it was given, the memory before it and after it, and what it said
 pub record Done : Type 0 where
@@ -87,7 +87,7 @@ done c =
 
 -- compose_table_job(plan, table, open_ticket, ticket, first, count, base, enhancement, output, marks)
 abbrev pub TableCall : Type 0
-TableCall = Ended looking-up.Post
+TableCall = Ended looking_up.Post
 
 abbrev pub table_done : TableCall → Done
 table_done c =
@@ -99,7 +99,7 @@ table_done c =
       given = table_job c.handed.0 c.handed.1.0.now tickets.0 tickets.1.0 rows.0 rows.1.0 pictures.0.now pictures.1.0.now;
       before = memory pictures.1.1.0.now pictures.1.1.1.0.now;
       afterwards = memory left.1.1.0.now left.1.1.1.0.now;
-      said = table-says c.answered;
+      said = table_says c.answered;
     }
 
 -- a call of either

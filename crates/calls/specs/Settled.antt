@@ -1,17 +1,18 @@
 -- For every input the promise of each call that reads or writes something of a user's leaves one answer, and one content of each run
--- that it was lent: two outcomes that the promise allows are equal. A promise is the call's generated `Post`, made of its own contract.
+-- that it was lent: two outcomes that the promise allows are equal. A promise is the call's `Post` in
+-- `promises`, which has the clauses of its contract; `calls::promises` has each call once more, proved to keep it.
 use Rattle.std.specs.Prelude.{◌≡◌, List, ℕ}
-use Rattle.calls.specs.promises.passes as passes-promise
-use Rattle.calls.specs.promises.empty as empty-promise
-use Rattle.calls.specs.promises.read as read-promise
-use Rattle.calls.specs.promises.write as write-promise
-use Rattle.calls.specs.promises.length as length-promise
-use Rattle.calls.specs.promises.compose_row_pairs as compose-row-pairs-promise
-use Rattle.calls.specs.promises.open_picture as open-picture-promise
-use Rattle.calls.specs.promises.compose_job as compose-job-promise
-use Rattle.calls.specs.promises.fill_table as fill-table-promise
-use Rattle.calls.specs.promises.compose_by_table as compose-by-table-promise
-use Rattle.calls.specs.promises.compose_table_job as compose-table-job-promise
+use Rattle.calls.specs.promises.passes as passes_promise
+use Rattle.calls.specs.promises.empty as empty_promise
+use Rattle.calls.specs.promises.read as read_promise
+use Rattle.calls.specs.promises.write as write_promise
+use Rattle.calls.specs.promises.length as length_promise
+use Rattle.calls.specs.promises.compose_row_pairs as compose_row_pairs_promise
+use Rattle.calls.specs.promises.open_picture as open_picture_promise
+use Rattle.calls.specs.promises.compose_job as compose_job_promise
+use Rattle.calls.specs.promises.fill_table as fill_table_promise
+use Rattle.calls.specs.promises.compose_by_table as compose_by_table_promise
+use Rattle.calls.specs.promises.compose_table_job as compose_table_job_promise
 use Rattle.calls.specs.Calls.{Ended, marks_opened, table_filled, done, table_done}
 
 -- of a promise: two calls that were handed the same answer the same, and leave the same in a run that they were lent
@@ -27,23 +28,23 @@ module _ {K : Type 0} {Handed Answered Left : K → Type 0} (Post : (κs : K) �
 
 -- the answer of each such call, and the content of each run that one writes
 pub record Settled : Type 0 where
-  pub passes : OneAnswer passes-promise.Post
-  pub empty : OneAnswer empty-promise.Post
-  pub read : OneAnswer read-promise.Post
-  pub write : OneAnswer write-promise.Post
-  pub written_slice : OneContent write-promise.Post (λ c. c.left.1.1.0.now)
-  pub length : OneAnswer length-promise.Post
-  pub compose_row_pairs : OneAnswer compose-row-pairs-promise.Post
-  pub composed_output : OneContent compose-row-pairs-promise.Post (λ c. let pictures = c.left.1.1.1 in pictures.1.1.1.0.now)
-  pub open_picture : OneAnswer open-picture-promise.Post
-  pub opened_marks : OneContent open-picture-promise.Post marks_opened
-  pub compose_job : OneAnswer compose-job-promise.Post
-  pub job_output : OneContent compose-job-promise.Post (λ c. (done c).afterwards.output)
-  pub job_marks : OneContent compose-job-promise.Post (λ c. (done c).afterwards.marks)
-  pub fill_table : OneAnswer fill-table-promise.Post
-  pub filled_table : OneContent fill-table-promise.Post table_filled
-  pub compose_by_table : OneAnswer compose-by-table-promise.Post
-  pub composed_by_table : OneContent compose-by-table-promise.Post (λ c. let pictures = c.left.1.1.1.1 in pictures.1.1.1.0.now)
-  pub compose_table_job : OneAnswer compose-table-job-promise.Post
-  pub table_job_output : OneContent compose-table-job-promise.Post (λ c. (table_done c).afterwards.output)
-  pub table_job_marks : OneContent compose-table-job-promise.Post (λ c. (table_done c).afterwards.marks)
+  pub passes : OneAnswer passes_promise.Post
+  pub empty : OneAnswer empty_promise.Post
+  pub read : OneAnswer read_promise.Post
+  pub write : OneAnswer write_promise.Post
+  pub written_slice : OneContent write_promise.Post (λ c. c.left.1.1.0.now)
+  pub length : OneAnswer length_promise.Post
+  pub compose_row_pairs : OneAnswer compose_row_pairs_promise.Post
+  pub composed_output : OneContent compose_row_pairs_promise.Post (λ c. let pictures = c.left.1.1.1 in pictures.1.1.1.0.now)
+  pub open_picture : OneAnswer open_picture_promise.Post
+  pub opened_marks : OneContent open_picture_promise.Post marks_opened
+  pub compose_job : OneAnswer compose_job_promise.Post
+  pub job_output : OneContent compose_job_promise.Post (λ c. (done c).afterwards.output)
+  pub job_marks : OneContent compose_job_promise.Post (λ c. (done c).afterwards.marks)
+  pub fill_table : OneAnswer fill_table_promise.Post
+  pub filled_table : OneContent fill_table_promise.Post table_filled
+  pub compose_by_table : OneAnswer compose_by_table_promise.Post
+  pub composed_by_table : OneContent compose_by_table_promise.Post (λ c. let pictures = c.left.1.1.1.1 in pictures.1.1.1.0.now)
+  pub compose_table_job : OneAnswer compose_table_job_promise.Post
+  pub table_job_output : OneContent compose_table_job_promise.Post (λ c. (table_done c).afterwards.output)
+  pub table_job_marks : OneContent compose_table_job_promise.Post (λ c. (table_done c).afterwards.marks)
