@@ -246,5 +246,5 @@ as_text_out() {
 }
 
 put_in_place() {
-  [ -z "$aside" ] || mv -f -- "$aside" "$1"
+  [ -z "$aside" ] || mv -f -- "$aside" "$1" 2>/dev/null || fail "$1: cannot be written: it could not be moved there"
 }

@@ -51,10 +51,11 @@ object() {
   rm -f "$1/crates/speed_c/out/libspeed_c.a"
   (cd "$1/crates/speed_c" && "$tools/kit/bin/rt" lib) >"$out/staticlib.log" 2>&1 ||
     { tail -n 20 "$out/staticlib.log"; return 1; }
+  cp "$1/crates/speed_c/out/libspeed_c.a" "$out/libspeed.a"     # the name that its callers link
   module=$(find "$tools/kept" -type f | head -n 1)
   "$clang" -x ir "$module" -S -emit-llvm -Xclang -disable-llvm-passes --target=x86_64-unknown-linux-gnu -o "$out/$2.ll"
   if [ "$machine" = x86_64 ]; then
-    ld -r --whole-archive "$1/crates/speed_c/out/libspeed_c.a" -o "$out/$2.o"
+    ld -r --whole-archive "$out/libspeed.a" -o "$out/$2.o"
     return
   fi
   sed -E -e 's/^target datalayout = .*/target datalayout = "e-m:e-i8:8:32-i16:16:32-i64:64-i128:128-n32:64-S128-Fn32"/' \
