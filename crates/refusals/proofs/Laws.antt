@@ -1,11 +1,14 @@
 -- Lists of rules: what it says that none is met, and one list before another. Assumes nothing.
-use mathlib.Core.Path.{◌≡◌, refl, sym, ap}
+use mathlib.Core.Path.{◌≡◌, ◌∙◌, refl, sym, ap}
 use mathlib.Core.Bool.{Bool, true, false, cond, not, ◌&&◌, ◌||◌, true≢false}
 use mathlib.Core.List.{List, [], ◌∷◌}
 use Prim.Native.Nat.{ℕ, zero, suc}
 use native.Mathlib.Omega.{arith}
 use lib.Dec.{eqb}
-use Rattle.refusals.specs.Refusals.{Rule, first_met, outcome, granted, denied}
+use Rattle.std.specs.Prelude.{Result, Ok, Err, get_or}
+use Rattle.refusals.specs.declared.Refusal.{Refusal}
+use Rattle.refusals.specs.declared.Refusal.TheVariants.{Short, Trailer, Length, Header, Field, Reserved, Plan, Ticket, Run, Rows, Sample, Room, Method}
+use Rattle.refusals.specs.Refusals.{Rule, first_met, Outcome, outcome, granted, denied, number_of, says}
 
 -- no rule of a list is met
 abbrev pub Unmet : List Rule → Type 0
@@ -66,3 +69,35 @@ pub outcome-number : (k : ℕ) (values : List ℕ) → (outcome k values).number
 unfolding outcome
 outcome-number zero values = refl
 outcome-number (suc k) values = refl
+
+-- ---- answers
+-- the rule of a number
+of_number : ℕ → Refusal
+of_number n = get_or (Short ∷ Short ∷ Trailer ∷ Length ∷ Header ∷ Field ∷ Reserved ∷ Plan ∷ Ticket ∷ Run ∷ Rows ∷ Sample ∷ Room ∷ Method ∷ []) n Short
+
+of_number-number_of : (r : Refusal) → of_number (number_of r) ≡ r
+unfolding of_number
+of_number-number_of Short = refl
+of_number-number_of Trailer = refl
+of_number-number_of Length = refl
+of_number-number_of Header = refl
+of_number-number_of Field = refl
+of_number-number_of Reserved = refl
+of_number-number_of Plan = refl
+of_number-number_of Ticket = refl
+of_number-number_of Run = refl
+of_number-number_of Rows = refl
+of_number-number_of Sample = refl
+of_number-number_of Room = refl
+of_number-number_of Method = refl
+
+-- no two rules have one number
+pub number_of-injective : (r s : Refusal) → number_of r ≡ number_of s → r ≡ s
+number_of-injective r s e = sym (of_number-number_of r) ∙ ap of_number e ∙ of_number-number_of s
+
+-- answers whose values tell what they hold are told by what they say
+pub says-injective : {A : Type 0} (values : A → List ℕ) → ((a b : A) → values a ≡ values b → a ≡ b) → (x y : Result A Refusal) → says values x ≡ says values y → x ≡ y
+says-injective values tell (Ok a) (Ok b) e = ap Ok (tell a b (ap (λ (o : Outcome). o.values) e))
+says-injective values tell (Ok a) (Err r) e = absurd (true≢false (sym (ap (λ (o : Outcome). o.refused) e)))
+says-injective values tell (Err r) (Ok b) e = absurd (true≢false (ap (λ (o : Outcome). o.refused) e))
+says-injective values tell (Err r) (Err s) e = ap Err (number_of-injective r s (ap (λ (o : Outcome). o.number) e))

@@ -1,5 +1,7 @@
 -- Refusals in order: the first rule met gives the answer; and what a call answers, whatever enum carries it.
-use Rattle.std.specs.Prelude.{Bool, true, false, cond, List, [], ◌∷◌, ℕ, zero, suc}
+use Rattle.std.specs.Prelude.{Bool, true, false, cond, List, [], ◌∷◌, ℕ, zero, suc, Result, Ok, Err}
+use Rattle.refusals.specs.declared.Refusal.{Refusal}
+use Rattle.refusals.specs.declared.Refusal.TheVariants.{Short, Trailer, Length, Header, Field, Reserved, Plan, Ticket, Run, Rows, Sample, Room, Method}
 
 -- a rule's number, and whether it is met
 pub record Rule : Type 0 where
@@ -30,3 +32,29 @@ denied k = record { refused = true; number = k; values = [] }
 unfoldable pub outcome : ℕ → List ℕ → Outcome
 outcome zero values = granted values
 outcome (suc k) values = denied (suc k)
+
+-- the number of each rule in the house's table
+abbrev pub number_of : Refusal → ℕ
+number_of Short = 1
+number_of Trailer = 2
+number_of Length = 3
+number_of Header = 4
+number_of Field = 5
+number_of Reserved = 6
+number_of Plan = 7
+number_of Ticket = 8
+number_of Run = 9
+number_of Rows = 10
+number_of Sample = 11
+number_of Room = 12
+number_of Method = 13
+
+-- what each case of an answer says: granted, with the values that it holds, or refused, with the number alone
+abbrev pub says : {A : Type 0} → (A → List ℕ) → Result A Refusal → Outcome
+says values (Ok a) = granted (values a)
+says values (Err r) = denied (number_of r)
+
+-- the number that it says
+abbrev pub number_in : {A : Type 0} → Result A Refusal → ℕ
+number_in (Ok a) = 0
+number_in (Err r) = number_of r
