@@ -11,9 +11,10 @@ ghost use Rattle.plan.specs.Rule7.{fitting, no_component, no_plan};
 
 use limits::{PIECES, PIVOTS, ROW};
 
-// The header's fields (5.3.2), as the block carries them. W is twice `columns`, and H twice `pairs`.
+// The header's fields (5.3.2), as the block carries them. W is twice `columns`, and H twice `pairs`. C builds plans and hands
+// them over, so the fields of these structs, their order and their layout are the C interface.
 #[repr(C)]
-#[derive(Clone, Copy)]
+#[derive(Clone, Copy, PartialEq, Eq)]
 pub struct Header {
     pub profile: u8, // ccm_profile
     pub level: u8, // ccm_level
@@ -31,7 +32,7 @@ pub struct Header {
 // One piece of a component's mapping (5.3.3): mapping_idc, its order less 1, and its row of coefficients. A polynomial's are
 // fp_poly_coef; of MMR place 0 is fp_mmr_constant, and place 7 (i - 1) + j + 1 is fp_mmr_coef[i][j].
 #[repr(C)]
-#[derive(Clone, Copy)]
+#[derive(Clone, Copy, PartialEq, Eq)]
 pub struct Piece {
     pub idc: u8,
     pub order: u8,
@@ -41,7 +42,7 @@ pub struct Piece {
 // How a component's residual is inverse quantized (5.3.4): nlq_offset, fp_hdr_in_max,
 // fp_linear_deadzone_slope and fp_linear_deadzone_threshold.
 #[repr(C)]
-#[derive(Clone, Copy)]
+#[derive(Clone, Copy, PartialEq, Eq)]
 pub struct Nlq {
     pub offset: u16,
     pub maximum: u64,
@@ -52,7 +53,7 @@ pub struct Nlq {
 // One component: num_pivots_minus2, n + 2 of pred_pivot_value, n + 2 pieces and the residual's numbers.
 // Places beyond the last pivot, the last piece or a piece's order are 0.
 #[repr(C)]
-#[derive(Clone, Copy)]
+#[derive(Clone, Copy, PartialEq, Eq)]
 pub struct Component {
     pub n: u8,
     pub preds: [u16; PIVOTS],
@@ -61,7 +62,7 @@ pub struct Component {
 }
 
 #[repr(C)]
-#[derive(Clone, Copy)]
+#[derive(Clone, Copy, PartialEq, Eq)]
 pub struct Plan {
     pub header: Header,
     pub y: Component,
@@ -87,7 +88,7 @@ fn zero_component() -> Component
         n: 0,
         preds: [0u16; PIVOTS],
         pieces: [piece; PIECES],
-        nlq: nlq,
+        nlq,
     }
 }
 
@@ -110,7 +111,7 @@ pub fn empty() -> Plan
     };
     let zeros = zero_component();
     Plan {
-        header: header,
+        header,
         y: zeros,
         cb: zeros,
         cr: zeros,
