@@ -50,7 +50,8 @@ fn rest_is_zero(row: &[i64; ROW]) -> bool
     zero
 }
 
-// A row of a polynomial's few places, of which the first `used` are used.
+// A row of a polynomial's few places, of which the first `used` are used. A call for each piece would cost a tenth of the whole.
+#[inline(always)]
 fn few_fit(h: FittingHeader, idc: u8, used: usize, row: &[i64; ROW]) -> bool
     requires { used ≤ 3 }
     ensures { result ≡ row_fits h.header idc used row.now }
