@@ -24,11 +24,14 @@ pub record Given : Type 0 where
   pub base : List ℕ
   pub enhancement : List ℕ
 
+abbrev pub given_by : Source → Plan → ℕ → ℕ → List ℕ → List ℕ → Given
+given_by s p f n b e = record { plan = p; source = s; first = f; count = n; base = b; enhancement = e }
+
 abbrev pub given : Plan → ℕ → ℕ → List ℕ → List ℕ → Given
-given p f n b e = record { plan = p; source = by_plan; first = f; count = n; base = b; enhancement = e }
+given p f n b e = given_by by_plan p f n b e
 
 abbrev pub given_table : Plan → List ℕ → ℕ → ℕ → List ℕ → List ℕ → Given
-given_table p t f n b e = record { plan = p; source = by_table t; first = f; count = n; base = b; enhancement = e }
+given_table p t f n b e = given_by (by_table t) p f n b e
 
 -- the size of a header's picture
 abbrev pub extent : Header → Extent

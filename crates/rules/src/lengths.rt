@@ -20,12 +20,5 @@ pub fn is_wrong_length(h: Header, base: usize, enhancement: usize, output: usize
 pub(crate) fn is_wrong_pairs(h: Header, first: usize, count: usize) -> bool
     ensures { result ≡ wrong_pairs h first count }
 {
-    let pairs = h.pairs as usize;
-    if count == 0 {
-        return true;
-    }
-    if pairs < first {
-        return true;
-    }
-    pairs - first < count
+    count == 0 || usize::from(h.pairs).saturating_sub(first) < count
 }

@@ -5,7 +5,7 @@ pub mod lengths; // rules 9 and 10, by numbers alone
 mod samples; // rule 11, by the samples of the row pairs
 
 ghost use Rattle.std.specs.Prelude.{◌≡◌, cond, ◌∷◌, length};
-ghost use Rattle.refusals.specs.Refusals.{rule, first_met};
+ghost use Rattle.refusals.specs.Refusals.{rule, first_met, number_in};
 ghost use Rattle.plan.specs.Ranges.{header_fits};
 ghost use Rattle.rules.specs.Rules.{given, extent, used, wrong_length, rows_rules, refusal};
 
@@ -13,6 +13,7 @@ use lengths::{is_wrong_length, is_wrong_pairs};
 use picture::Extent;
 use plan::ranges::header_fits;
 use plan::{Header, Plan};
+use refusals::Refusal;
 use rule_seven::passes;
 use samples::is_wrong_sample;
 
@@ -33,7 +34,7 @@ pub fn is_used(h: Header, enhancement: usize) -> bool
     (h.disabled == 0) & (0 < enhancement)
 }
 
-// The first rule met of 9, 10 and 11, in this order; 0 where none is. They ask for a header that fits: 7 where it does not.
+// Refuses by the first rule met of 9, 10 and 11, in this order. They ask for a header that fits: 7 where it does not.
 pub fn refusal_of_pictures(
     h: Header,
     first: usize,
@@ -41,25 +42,25 @@ pub fn refusal_of_pictures(
     base: &[u16],
     enhancement: &[u16],
     output: usize,
-) -> u8
-    ensures { result ≡ cond (header_fits h) (first_met (rule 9 (wrong_length h (length base.now) (length enhancement.now) output) ∷ rows_rules h first count base.now enhancement.now)) 7 }
+) -> Result<(), Refusal>
+    ensures { number_in result ≡ cond (header_fits h) (first_met (rule 9 (wrong_length h (length base.now) (length enhancement.now) output) ∷ rows_rules h first count base.now enhancement.now)) 7 }
 {
     if !header_fits(h) {
-        return 7;
+        return Err(Refusal::Plan);
     }
     if is_wrong_length(h, base.len(), enhancement.len(), output) {
-        return 9;
+        return Err(Refusal::Run);
     }
     if is_wrong_pairs(h, first, count) {
-        return 10;
+        return Err(Refusal::Rows);
     }
     if is_wrong_sample(h, first, first + count, base, enhancement) {
-        return 11;
+        return Err(Refusal::Sample);
     }
-    0
+    Ok(())
 }
 
-// The first rule met of 7, 9, 10 and 11, in this order, with the output's length; 0 where none is.
+// Refuses by the first rule met of 7, 9, 10 and 11, in this order, with the output's length.
 pub fn refusal_of(
     plan: Plan,
     first: usize,
@@ -67,11 +68,11 @@ pub fn refusal_of(
     base: &[u16],
     enhancement: &[u16],
     output: usize,
-) -> u8
-    ensures { result ≡ refusal (given plan first count base.now enhancement.now) output }
+) -> Result<(), Refusal>
+    ensures { number_in result ≡ refusal (given plan first count base.now enhancement.now) output }
 {
     if !passes(plan) {
-        return 7;
+        return Err(Refusal::Plan);
     }
     refusal_of_pictures(plan.header, first, count, base, enhancement, output)
 }
