@@ -1,0 +1,69 @@
+// A job, whatever composes its row pairs.
+ghost use Rattle.std.specs.Prelude.{◌≡◌, length};
+ghost use Rattle.rules.specs.Rules.{Source, given_by};
+ghost use Rattle.compose.specs.Composing.{says, answer, output_after};
+ghost use Rattle.jobs.specs.Jobs.{job_by, left_says, job_answer, output_after as job_output, marks_after};
+
+use crate::Left;
+use crate::early::{is_marked, seven_or};
+use compose::makes_full;
+use marks::{base_only, mark, waiting};
+use plan::Plan;
+use refusals::Refusal;
+
+// What composes row pairs, or refuses and writes nothing.
+pub trait Composer: Copy {
+    // Where it has its mapped samples from.
+    ghost source: { Self → Source };
+
+    fn compose(
+        self,
+        plan: Plan,
+        first: usize,
+        count: usize,
+        base: &[u16],
+        enhancement: &[u16],
+        marks: &[u8],
+        output: &mut [u16],
+    ) -> Result<(), Refusal>
+        ensures answers { says result ≡ answer (given_by (source self) plan first count base.now enhancement.now) (length output.old) }
+        ensures writes { output.new ≡ output_after (given_by (source self) plan first count base.now enhancement.now) marks.now output.old };
+}
+
+// Composes `count` row pairs from `first` on and marks them: all of them as full where the flag is 1 or an enhancement is used,
+// and otherwise as base only those that are not full already. Refused by one of the rules 7 to 13, 8 and 9 on the marks before
+// those of composing but for 7, it writes nothing.
+pub fn job_by<C: Composer>(
+    composer: C,
+    plan: Plan,
+    open_ticket: u32,
+    ticket: u32,
+    first: usize,
+    count: usize,
+    base: &[u16],
+    enhancement: &[u16],
+    output: &mut [u16],
+    marks: &mut [u8],
+) -> Result<Left, Refusal>
+    ensures answers { left_says result ≡ job_answer (job_by (C.source composer) plan open_ticket ticket first count base.now enhancement.now) output.old marks.old }
+    ensures writes { output.new ≡ job_output (job_by (C.source composer) plan open_ticket ticket first count base.now enhancement.now) output.old marks.old }
+    ensures marking { marks.new ≡ marks_after (job_by (C.source composer) plan open_ticket ticket first count base.now enhancement.now) output.old marks.old }
+{
+    // Rule 7 comes before 8 and 9. Composing tests it too, so it is tested here only where one of these two is met.
+    if ticket != open_ticket {
+        return Err(seven_or(plan, Refusal::Ticket));
+    }
+    if !is_marked(plan, marks.len()) {
+        return Err(seven_or(plan, Refusal::Run));
+    }
+    let full = makes_full(plan.header, enhancement.len());
+    // Composing tests 7, the other lengths (9), 13 of a table, 10 and 11 in this order, and where it refuses it writes nothing.
+    composer.compose(plan, first, count, base, enhancement, marks, output)?;
+    let last = first + count;
+    mark(full, first, last, marks);
+    // A job may come again, so the row pairs left are counted and never worked out from those left before.
+    Ok(Left {
+        waiting: waiting(marks),
+        base_only: base_only(marks),
+    })
+}
