@@ -62,8 +62,9 @@ pub fn job_by<C: Composer>(
     let last = first + count;
     mark(full, first, last, marks);
     // A job may come again, so the row pairs left are counted and never worked out from those left before.
+    let left = waiting(marks);
     Ok(Left {
-        waiting: waiting(marks),
+        waiting: left,
         base_only: base_only(marks),
     })
 }

@@ -53,10 +53,10 @@ impl Answer {
 }
 
 impl From<Result<Left, Refusal>> for Answer {
-    ghost from_gives = { λ r a. says a ≡ left_says r };
+    ghost from_gives = { λ done answer. says answer ≡ left_says done };
 
-    fn from(result: Result<Left, Refusal>) -> Answer {
-        match result {
+    fn from(done: Result<Left, Refusal>) -> Answer {
+        match done {
             Ok(left) => Answer::Done(left.waiting, left.base_only),
             Err(refusal) => Answer::Refused(refusal.number()),
         }

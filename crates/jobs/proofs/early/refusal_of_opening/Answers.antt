@@ -1,6 +1,6 @@
 use mathlib.Core.Path.{sym, ◌∙◌}
 use Rattle.jobs.specs.Jobs.{opening_refusal}
-use Rattle.jobs.proofs.early.opening_number_of.Goals as goal
+use Rattle.jobs.proofs.early.refusal_of_opening.Goals as goal
 
 pub returns-then-not-passes : goal.returns-then-not-passes
 unfolding opening_refusal
