@@ -8,7 +8,7 @@ ghost use Rattle.jobs.specs.Jobs.{job, table_job, job_answer, output_after, mark
 ghost use Rattle.writer.specs.Writing.{answer, written};
 
 use filling::fill_table;
-use jobs::{compose_job, number};
+use jobs::compose_job;
 use plan::Plan;
 use table_jobs::compose_table_job;
 
@@ -28,7 +28,7 @@ pub fn speed_job(
     ensures writes { output.new ≡ output_after (job plan open_ticket ticket first count base.now enhancement.now) output.old marks.old }
     ensures marking { marks.new ≡ marks_after (job plan open_ticket ticket first count base.now enhancement.now) output.old marks.old }
 {
-    number(compose_job(
+    compose_job(
         plan,
         open_ticket,
         ticket,
@@ -38,7 +38,8 @@ pub fn speed_job(
         enhancement,
         output,
         marks,
-    ))
+    )
+    .number()
 }
 
 // The same of a job that is lent a table.
@@ -58,7 +59,7 @@ pub fn speed_table_job(
     ensures writes { output.new ≡ output_after (table_job plan table.now open_ticket ticket first count base.now enhancement.now) output.old marks.old }
     ensures marking { marks.new ≡ marks_after (table_job plan table.now open_ticket ticket first count base.now enhancement.now) output.old marks.old }
 {
-    table_jobs::number(compose_table_job(
+    compose_table_job(
         plan,
         table,
         open_ticket,
@@ -69,7 +70,8 @@ pub fn speed_table_job(
         enhancement,
         output,
         marks,
-    ))
+    )
+    .number()
 }
 
 // 0 where the table is filled, else the refusal's number.
