@@ -22,6 +22,7 @@ pub fn picture_size(h: Header) -> usize
 }
 
 // Whether a call makes full row pairs: the flag is 1, or an enhancement picture is used.
+#[tactic(auto, unfolding(crate::specs::Composing::makes_full))]
 pub fn makes_full(h: Header, enhancement: usize) -> bool
     ensures { result ≡ makes_full h enhancement }
 {
@@ -29,6 +30,7 @@ pub fn makes_full(h: Header, enhancement: usize) -> bool
 }
 
 // How many of the marks a call without residual sees: where the flag is 1 its row pairs are full, and none is kept.
+#[tactic(auto, unfolding(crate::specs::inner::Seen::marks_seen))]
 pub fn marks_seen(h: Header, marks: usize) -> usize
     ensures is { result ≡ marks_seen h marks }
     ensures few { result ≤ marks }

@@ -23,6 +23,7 @@ pub fn is_marked(plan: Plan, marks: usize) -> bool
 }
 
 // Refuses an opening by rule 7 or 9, in this order.
+#[tactic(auto, unfolding(crate::specs::Jobs::opening_refusal))]
 pub(crate) fn refusal_of_opening(plan: Plan, marks: usize) -> Result<(), Refusal>
     ensures { number_in result ≡ opening_refusal plan marks }
 {

@@ -129,6 +129,7 @@ pub fn compose_job(
 }
 
 // Carries demand 2, so that the gate names it: what a job writes is the composing process of clause 5.4, sample by sample.
+#[tactic(auto, using(crate::proofs::Samples::every_sample_holds))]
 pub fn every_sample()
     ensures { EverySample }
 {}

@@ -7,6 +7,7 @@ use picture::picture_size;
 use plan::Header;
 
 // Rule 9. An enhancement that is not used may have any length.
+#[tactic(auto, unfolding(crate::specs::Rules::wrong_length))]
 pub fn is_wrong_length(h: Header, base: usize, enhancement: usize, output: usize) -> bool
     ensures { result ≡ wrong_length h base enhancement output }
 {

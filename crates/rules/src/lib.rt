@@ -28,6 +28,7 @@ pub fn extent_of(h: Header) -> Extent
 }
 
 // 5.3.2: a picture that is not present disables the residual, whatever the flag says.
+#[tactic(auto, unfolding(crate::specs::Rules::used))]
 pub fn is_used(h: Header, enhancement: usize) -> bool
     ensures { result ≡ used h enhancement }
 {
@@ -61,6 +62,7 @@ pub fn refusal_of_pictures(
 }
 
 // Refuses by the first rule met of 7, 9, 10 and 11, in this order, with the output's length.
+#[tactic(auto, unfolding(crate::specs::Rules::refusal, crate::specs::Rules::rules))]
 pub fn refusal_of(
     plan: Plan,
     first: usize,

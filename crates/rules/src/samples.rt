@@ -17,7 +17,7 @@ fn codes_of(minus8: u8) -> u16
     requires { minus8 ≤ 2 }
     ensures { result ≡ 2 ^ (minus8 + 8) }
 {
-    (1u64 << ((minus8 as u32) + 8)) as u16
+    1u16 << (minus8 + 8)
 }
 
 // Six runs of n samples, gone over in step: four from y on, one from b on and one from r on.
