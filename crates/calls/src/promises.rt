@@ -186,7 +186,11 @@ pub fn jobs_number(answer: jobs::Answer) -> u8
     answer.number()
 }
 
-pub fn open_picture(plan: plan::Plan, ticket: u32, marks: &mut [u8]) -> Result<u32, refusals::Refusal>
+pub fn open_picture(
+    plan: plan::Plan,
+    ticket: u32,
+    marks: &mut [u8],
+) -> Result<u32, refusals::Refusal>
     ensures { open_picture_keeps plan ticket marks.old result marks.new }
 {
     jobs::open_picture(plan, ticket, marks)
@@ -514,7 +518,13 @@ pub fn rules_refusal_of(
 ) -> Result<(), refusals::Refusal>
     ensures { rules_refusal_of_keeps plan first count base.now enhancement.now output result }
 {
-    rules::refusal_of(plan, first, count, base, enhancement, output)
+    let work = rules::Work {
+        first,
+        count,
+        base,
+        enhancement,
+    };
+    rules::refusal_of(plan, work, output)
 }
 
 pub fn refusal_of_pictures(
@@ -527,7 +537,13 @@ pub fn refusal_of_pictures(
 ) -> Result<(), refusals::Refusal>
     ensures { refusal_of_pictures_keeps h first count base.now enhancement.now output result }
 {
-    rules::refusal_of_pictures(h, first, count, base, enhancement, output)
+    let work = rules::Work {
+        first,
+        count,
+        base,
+        enhancement,
+    };
+    rules::refusal_of_pictures(h, work, output)
 }
 
 pub fn look_up_in_step(
@@ -743,7 +759,13 @@ pub fn table_rules_refusal_of(
 ) -> Result<(), refusals::Refusal>
     ensures { table_rules_refusal_of_keeps plan table.now first count base.now enhancement.now output result }
 {
-    table_rules::refusal_of(plan, table, first, count, base, enhancement, output)
+    let work = rules::Work {
+        first,
+        count,
+        base,
+        enhancement,
+    };
+    table_rules::refusal_of(plan, table, work, output)
 }
 
 pub fn length(plan: plan::Plan, version: u16) -> usize

@@ -12,7 +12,7 @@ use plan::{Header, Plan};
 use planes::{enhanced_planes, plain_planes};
 use refusals::Refusal;
 use rows::Rows;
-use rules::{extent_of, is_used, refusal_of};
+use rules::{Work, extent_of, is_used, refusal_of};
 
 // How many samples the run of a picture has, 3WH/2, whatever the header says.
 pub fn picture_size(h: Header) -> usize
@@ -53,7 +53,13 @@ pub fn compose_row_pairs(
     ensures answers { says result ≡ answer (given plan first count base.now enhancement.now) (length output.old) }
     ensures writes { output.new ≡ output_after (given plan first count base.now enhancement.now) marks.now output.old }
 {
-    refusal_of(plan, first, count, base, enhancement, output.len())?;
+    let work = Work {
+        first,
+        count,
+        base,
+        enhancement,
+    };
+    refusal_of(plan, work, output.len())?;
     let r = Rows {
         first,
         last: first + count,

@@ -6,7 +6,8 @@ use Rattle.refusals.specs.Refusals.{Rule, rule, first_met, Outcome, granted, den
 use Rattle.picture.specs.Picture.{pair_at}
 use Rattle.plan.specs.declared.Plan.{Plan}
 use Rattle.plan.specs.Rule7.{fitting}
-use Rattle.rules.specs.Rules.{Source, by_plan, Given, given_by, given_table, extent, rules}
+use Rattle.rules.specs.declared.Work.{Work}
+use Rattle.rules.specs.Rules.{Source, Given, given, given_work, given_table, extent, rules}
 use Rattle.marks.specs.Marks.{waits, base_only, full_at}
 use Rattle.compose.specs.Composing.{makes_full, composes, composed_by}
 use Rattle.jobs.specs.declared.Left.{Left}
@@ -37,11 +38,11 @@ pub record Job : Type 0 where
   pub open_ticket : ℕ
   pub ticket : ℕ
 
-abbrev pub job_by : Source → Plan → ℕ → ℕ → ℕ → ℕ → List ℕ → List ℕ → Job
-job_by s p o t f n b e = record { work = given_by s p f n b e; open_ticket = o; ticket = t }
+abbrev pub job_work : Source → Plan → ℕ → ℕ → Work → Job
+job_work s p o t w = record { work = given_work s p w; open_ticket = o; ticket = t }
 
 abbrev pub job : Plan → ℕ → ℕ → ℕ → ℕ → List ℕ → List ℕ → Job
-job p o t f n b e = job_by by_plan p o t f n b e
+job p o t f n b e = record { work = given p f n b e; open_ticket = o; ticket = t }
 
 -- the same job, lent a table of mapped samples
 abbrev pub lend : List ℕ → Job → Job

@@ -14,6 +14,7 @@ use early::refusal_of_opening;
 use marks::clear;
 use plan::Plan;
 use refusals::Refusal;
+use rules::Work;
 
 // How many row pairs of a picture still wait, and how many are base only.
 #[derive(Clone, Copy)]
@@ -73,14 +74,19 @@ impl Composer for ByPlan {
     fn compose(
         self,
         plan: Plan,
-        first: usize,
-        count: usize,
-        base: &[u16],
-        enhancement: &[u16],
+        work: Work<'_>,
         marks: &[u8],
         output: &mut [u16],
     ) -> Result<(), Refusal> {
-        compose_row_pairs(plan, first, count, base, enhancement, marks, output)
+        compose_row_pairs(
+            plan,
+            work.first,
+            work.count,
+            work.base,
+            work.enhancement,
+            marks,
+            output,
+        )
     }
 }
 
@@ -113,18 +119,13 @@ pub fn compose_job(
     ensures writes { output.new ≡ output_after (job plan open_ticket ticket first count base.now enhancement.now) output.old marks.old }
     ensures marking { marks.new ≡ marks_after (job plan open_ticket ticket first count base.now enhancement.now) output.old marks.old }
 {
-    let done = job_by(
-        ByPlan,
-        plan,
-        open_ticket,
-        ticket,
+    let work = Work {
         first,
         count,
         base,
         enhancement,
-        output,
-        marks,
-    );
+    };
+    let done = job_by(ByPlan, plan, open_ticket, ticket, work, output, marks);
     Answer::from(done)
 }
 

@@ -9,6 +9,7 @@ use jobs::Answer;
 use jobs::by::{Composer, job_by};
 use plan::Plan;
 use refusals::Refusal;
+use rules::Work;
 use table_compose::compose_by_table;
 
 // The composing process by a table, whatever it holds.
@@ -23,14 +24,20 @@ impl Composer for ByTable<'_> {
     fn compose(
         self,
         plan: Plan,
-        first: usize,
-        count: usize,
-        base: &[u16],
-        enhancement: &[u16],
+        work: Work<'_>,
         marks: &[u8],
         output: &mut [u16],
     ) -> Result<(), Refusal> {
-        compose_by_table(plan, self.table, first, count, base, enhancement, marks, output)
+        compose_by_table(
+            plan,
+            self.table,
+            work.first,
+            work.count,
+            work.base,
+            work.enhancement,
+            marks,
+            output,
+        )
     }
 }
 
@@ -52,17 +59,13 @@ pub fn compose_table_job(
     ensures writes { output.new ≡ output_after (table_job plan table.now open_ticket ticket first count base.now enhancement.now) output.old marks.old }
     ensures marking { marks.new ≡ marks_after (table_job plan table.now open_ticket ticket first count base.now enhancement.now) output.old marks.old }
 {
-    let done = job_by(
-        ByTable { table },
-        plan,
-        open_ticket,
-        ticket,
+    let work = Work {
         first,
         count,
         base,
         enhancement,
-        output,
-        marks,
-    );
+    };
+    let by = ByTable { table };
+    let done = job_by(by, plan, open_ticket, ticket, work, output, marks);
     Answer::from(done)
 }

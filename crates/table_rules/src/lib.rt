@@ -6,14 +6,14 @@ ghost use Rattle.std.specs.Prelude.{◌≡◌, cond, Ok, Err};
 ghost use Rattle.refusals.specs.Refusals.{number_in};
 ghost use Rattle.plan.specs.Rule7.{fitting};
 ghost use Rattle.plan.specs.Tables.{has_mmr};
-ghost use Rattle.rules.specs.Rules.{given_table, refusal};
+ghost use Rattle.rules.specs.Rules.{by_table, given_work, refusal};
 
 use filling::table_size;
 use plan::Plan;
 use refusals::Refusal;
 use rule_seven::is_usable;
 use rules::lengths::is_wrong_length;
-use rules::refusal_of_pictures;
+use rules::{Work, refusal_of_pictures};
 
 // How the pieces of a plan map: by polynomials alone, or some by MMR.
 #[derive(Clone, Copy)]
@@ -52,23 +52,20 @@ fn method_of(plan: Plan) -> Result<Method, Refusal>
 pub fn refusal_of(
     plan: Plan,
     table: &[u16],
-    first: usize,
-    count: usize,
-    base: &[u16],
-    enhancement: &[u16],
+    work: Work<'_>,
     output: usize,
 ) -> Result<(), Refusal>
-    ensures { number_in result ≡ refusal (given_table plan table.now first count base.now enhancement.now) output }
+    ensures { number_in result ≡ refusal (given_work (by_table table.now) plan work.entry) output }
 {
     let method = method_of(plan)?;
     let h = plan.header;
-    let pictures = is_wrong_length(h, base.len(), enhancement.len(), output);
+    let pictures = is_wrong_length(h, work.base.len(), work.enhancement.len(), output);
     let wrong = pictures | (table.len() != table_size(h));
     if wrong {
         return Err(Refusal::Run);
     }
     match method {
         Method::Mmr => Err(Refusal::Method),
-        Method::Polynomials => refusal_of_pictures(h, first, count, base, enhancement, output),
+        Method::Polynomials => refusal_of_pictures(h, work, output),
     }
 }

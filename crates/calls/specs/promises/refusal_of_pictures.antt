@@ -1,4 +1,4 @@
--- rules::refusal_of_pictures(h, first, count, base, enhancement, output)
+-- rules::refusal_of_pictures(h, Work { first, count, base, enhancement }, output)
 use Rattle.calls.specs.Lent.{Lent}
 use Rattle.plan.specs.Ranges.{header_fits}
 use Rattle.plan.specs.declared.Header.{Header}

@@ -1,4 +1,4 @@
--- rules::refusal_of(plan, first, count, base, enhancement, output)
+-- rules::refusal_of(plan, Work { first, count, base, enhancement }, output)
 use Rattle.calls.specs.Lent.{Lent}
 use Rattle.plan.specs.declared.Plan.{Plan}
 use Rattle.refusals.specs.Refusals.{number_in}

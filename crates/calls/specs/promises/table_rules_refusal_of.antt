@@ -1,4 +1,4 @@
--- table_rules::refusal_of(plan, table, first, count, base, enhancement, output)
+-- table_rules::refusal_of(plan, table, Work { first, count, base, enhancement }, output)
 use Rattle.calls.specs.Lent.{Lent}
 use Rattle.plan.specs.declared.Plan.{Plan}
 use Rattle.refusals.specs.Refusals.{number_in}
