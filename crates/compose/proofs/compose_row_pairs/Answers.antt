@@ -1,10 +1,12 @@
 -- `compose::compose_row_pairs` meets its contract: a refusal writes nothing, and acceptance gives what the planes mean. Assumes nothing.
-use mathlib.Core.Path.{sym, ◌∙◌}
+use mathlib.Core.Path.{sym, ap, ◌∙◌}
 use lib.ListN.{length}
 use native.Mathlib.Omega.{arith}
+use Rattle.std.specs.Prelude.{Err}
 use Rattle.std.proofs.lemmas.Result.{err_from_is_err_and}
 use Rattle.plan.proofs.Facts.{header_facts}
 use Rattle.rules.specs.Rules.{given}
+use Rattle.compose.specs.Composing.{says}
 use Rattle.compose.proofs.Meaning.{plain_painted, enhanced-painted, plain_composed, enhanced_composed}
 use Rattle.compose.proofs.Accepting.{refused, written, all_named, kept_seen, rows_of, passed, in_output, in_base, in_enhancement}
 use Rattle.compose.proofs.compose_row_pairs.Goals as goal
@@ -14,7 +16,7 @@ returns-in_err-refusal_of c =
     let a = c.args in
     let p = err_from_is_err_and c.from_residual.result c.from_residual.ensures.1 in
     let e = refused (given a.plan a.first a.count a.base.now a.enhancement.now) a.marks.now a.output.now _ c.in_err-refusal_of.ensures in
-    record { answers = rw (p.1, p.2) e.0; writes = e.1 }
+    record { answers = ap says (p.1 ∙ ap Err p.2) ∙ e.0; writes = e.1 }
 
 pub overflow_add-r : goal.overflow_add-r
 overflow_add-r c =
