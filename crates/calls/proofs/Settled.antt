@@ -9,15 +9,11 @@ use Rattle.refusals.specs.declared.Refusal.{Refusal}
 use Rattle.refusals.proofs.Laws.{number_of-some, number_of-injective, says-injective}
 use Rattle.refusals.specs.Refusals.{Outcome, number_in}
 use Rattle.compose.specs.Composing as composing
-use Rattle.writer.specs.declared.Writing.{Writing}
-use Rattle.writer.specs.declared.Writing.TheVariants as written
 use Rattle.writer.specs.Writing as writing
 use Rattle.jobs.specs.Jobs.{opened_says}
 use Rattle.jobs.specs.declared.Answer.{Answer}
 use Rattle.jobs.specs.declared.Answer.TheVariants as answered
 use Rattle.jobs.specs.Jobs as jobs
-use Rattle.filling.specs.declared.Filling.{Filling}
-use Rattle.filling.specs.declared.Filling.TheVariants as filled
 use Rattle.filling.specs.Filling as filling
 use Rattle.calls.specs.Settled.{Settled}
 use Rattle.calls.specs.inner.Leaves.{LeavesSettled}
@@ -44,11 +40,8 @@ one_refusal (Ok u) (Err r) e = absurd (number_of-some r (sym e))
 one_refusal (Err r) (Ok v) e = absurd (number_of-some r e)
 one_refusal (Err r) (Err s) e = ap Err (number_of-injective r s e)
 
-one_written : (r r' : Writing) → writing.says r ≡ writing.says r' → r ≡ r'
-one_written (written.Written n) (written.Written m) e = ap written.Written (same_value e)
-one_written (written.Written n) (written.Refused k) e = absurd (true≢false (sym (same_case e)))
-one_written (written.Refused k) (written.Written n) e = absurd (true≢false (same_case e))
-one_written (written.Refused k) (written.Refused l) e = ap written.Refused (same_number e)
+one_written : (r r' : Result ℕ Refusal) → writing.says r ≡ writing.says r' → r ≡ r'
+one_written = says-injective (λ n. n ∷ []) (λ n m e. ap (λ (l : List ℕ). get_or l 0 0) e)
 
 one_opened : (r r' : Result ℕ Refusal) → opened_says r ≡ opened_says r' → r ≡ r'
 one_opened = says-injective (λ t. t ∷ []) (λ t u e. ap (λ (l : List ℕ). get_or l 0 0) e)
@@ -59,11 +52,8 @@ one_job (answered.Done n u) (answered.Refused k) e = absurd (true≢false (sym (
 one_job (answered.Refused k) (answered.Done n u) e = absurd (true≢false (same_case e))
 one_job (answered.Refused k) (answered.Refused l) e = ap answered.Refused (same_number e)
 
-one_filled : (r r' : Filling) → filling.says r ≡ filling.says r' → r ≡ r'
-one_filled filled.Filled filled.Filled e = refl
-one_filled filled.Filled (filled.Refused k) e = absurd (true≢false (sym (same_case e)))
-one_filled (filled.Refused k) filled.Filled e = absurd (true≢false (same_case e))
-one_filled (filled.Refused k) (filled.Refused l) e = ap filled.Refused (same_number e)
+one_filled : (r r' : Result (Unit {0}) Refusal) → filling.says r ≡ filling.says r' → r ≡ r'
+one_filled = says-injective (λ u. []) (λ u v e. refl)
 
 pub settled : Settled
 settled =
@@ -149,7 +139,6 @@ leaves_settled =
       is_full = λ κs a r r' s s' p q. p ∙ sym q;
       waiting = λ κs a r r' s s' p q. p ∙ sym q;
       base_only = λ κs a r r' s s' p q. p ∙ sym q;
-      written_number = λ κs a r r' s s' p q. p ∙ sym q;
       refusal_number = λ κs a r r' s s' p q. p ∙ sym q;
       opened_number = λ κs a r r' s s' p q. p ∙ sym q;
       job_number = λ κs a r r' s s' p q. p ∙ sym q;
@@ -161,7 +150,6 @@ leaves_settled =
       enhanced_plane = λ κs a r r' s s' p q. p ∙ sym q;
       table_refusal_of = λ κs a r r' s s' p q. one_refusal r r' (p ∙ sym q);
       table_size = λ κs a r r' s s' p q. p ∙ sym q;
-      filling_number = λ κs a r r' s s' p q. p ∙ sym q;
       seven_or = λ κs a r r' s s' p q. p ∙ sym q;
       is_marked = λ κs a r r' s s' p q. p ∙ sym q;
       speed_fill = λ κs a r r' s s' p q. p.0 ∙ sym q.0;

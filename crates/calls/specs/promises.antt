@@ -4,7 +4,6 @@ pub mod makes_full
 pub mod marks_seen
 pub mod compose_picture_size
 pub mod fill_table
-pub mod filling_number
 pub mod table_size
 pub mod compose_job
 pub mod is_marked
@@ -76,5 +75,4 @@ pub mod compose_by_table
 pub mod compose_table_job
 pub mod table_rules_refusal_of
 pub mod length
-pub mod writer_number
 pub mod write

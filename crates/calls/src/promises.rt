@@ -5,7 +5,6 @@ ghost use Rattle.calls.specs.promises.makes_full.{Keeps as makes_full_keeps};
 ghost use Rattle.calls.specs.promises.marks_seen.{Keeps as marks_seen_keeps};
 ghost use Rattle.calls.specs.promises.compose_picture_size.{Keeps as compose_picture_size_keeps};
 ghost use Rattle.calls.specs.promises.fill_table.{Keeps as fill_table_keeps};
-ghost use Rattle.calls.specs.promises.filling_number.{Keeps as filling_number_keeps};
 ghost use Rattle.calls.specs.promises.table_size.{Keeps as table_size_keeps};
 ghost use Rattle.calls.specs.promises.compose_job.{Keeps as compose_job_keeps};
 ghost use Rattle.calls.specs.promises.is_marked.{Keeps as is_marked_keeps};
@@ -77,7 +76,6 @@ ghost use Rattle.calls.specs.promises.compose_by_table.{Keeps as compose_by_tabl
 ghost use Rattle.calls.specs.promises.compose_table_job.{Keeps as compose_table_job_keeps};
 ghost use Rattle.calls.specs.promises.table_rules_refusal_of.{Keeps as table_rules_refusal_of_keeps};
 ghost use Rattle.calls.specs.promises.length.{Keeps as length_keeps};
-ghost use Rattle.calls.specs.promises.writer_number.{Keeps as writer_number_keeps};
 ghost use Rattle.calls.specs.promises.write.{Keeps as write_keeps};
 
 pub fn read(bytes: &[u8]) -> block::Reading
@@ -118,16 +116,10 @@ pub fn compose_picture_size(h: plan::Header) -> usize
     compose::picture_size(h)
 }
 
-pub fn fill_table(plan: plan::Plan, table: &mut [u16]) -> filling::Filling
+pub fn fill_table(plan: plan::Plan, table: &mut [u16]) -> Result<(), refusals::Refusal>
     ensures { fill_table_keeps plan table.old result table.new }
 {
     filling::fill_table(plan, table)
-}
-
-pub fn filling_number(filling: filling::Filling) -> u8
-    ensures { filling_number_keeps filling result }
-{
-    filling::number(filling)
 }
 
 pub fn table_size(h: plan::Header) -> usize
@@ -774,13 +766,7 @@ pub fn length(plan: plan::Plan, version: u16) -> usize
     writer::length(plan, version)
 }
 
-pub fn writer_number(answer: writer::Writing) -> u8
-    ensures { writer_number_keeps answer result }
-{
-    writer::number(answer)
-}
-
-pub fn write(plan: plan::Plan, version: u16, out: &mut [u8]) -> writer::Writing
+pub fn write(plan: plan::Plan, version: u16, out: &mut [u8]) -> Result<usize, refusals::Refusal>
     ensures { write_keeps plan version out.old result out.new }
 {
     writer::write(plan, version, out)

@@ -80,7 +80,7 @@ pub fn speed_fill(plan: Plan, table: &mut [u16]) -> u8
     ensures answers { result ≡ (filling_answer plan (length table.old)).number }
     ensures writes { table.new ≡ table_after plan table.old }
 {
-    filling::number(fill_table(plan, table))
+    refusals::number(fill_table(plan, table))
 }
 
 // 0 where the block is written, else the refusal's number.
@@ -88,5 +88,5 @@ pub fn speed_write(plan: Plan, version: u16, out: &mut [u8]) -> u8
     ensures answers { result ≡ (answer plan version (length out.old)).number }
     ensures writes { out.new ≡ written plan version out.old }
 {
-    writer::number(writer::write(plan, version, out))
+    refusals::number(writer::write(plan, version, out))
 }

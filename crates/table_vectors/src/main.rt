@@ -3,7 +3,7 @@
 // All that is lent lies between guards, which nobody may touch.
 #![tactic(auto)]
 
-use filling::{Filling, fill_table};
+use filling::fill_table;
 use jobs::{Answer, compose_job, open_picture};
 use plan::Plan;
 use refusals::Refusal;
@@ -38,12 +38,12 @@ fn say_opened(opened: Result<u32, Refusal>) {
     }
 }
 
-fn say_filling(filling: Filling) {
+fn say_filling(filling: Result<(), Refusal>) {
     match filling {
-        Filling::Filled => {
+        Ok(()) => {
             io::write_all(1, b"filled\n");
         }
-        Filling::Refused(number) => print_refusal(number),
+        Err(refusal) => print_refusal(refusal.number()),
     }
 }
 

@@ -43,7 +43,6 @@ use Rattle.calls.specs.promises.quantizes as quantizes_promise
 use Rattle.calls.specs.promises.least as least_promise
 use Rattle.calls.specs.promises.plain_planes as plain_planes_promise
 use Rattle.calls.specs.promises.enhanced_planes as enhanced_planes_promise
-use Rattle.calls.specs.promises.writer_number as written_number_promise
 use Rattle.calls.specs.promises.speed_write as speed_write_promise
 use Rattle.calls.specs.promises.speed_job as speed_job_promise
 use Rattle.calls.specs.promises.compose_picture_size as run_length_promise
@@ -65,7 +64,6 @@ use Rattle.calls.specs.promises.plain_plane as plain_plane_promise
 use Rattle.calls.specs.promises.enhanced_plane as enhanced_plane_promise
 use Rattle.calls.specs.promises.table_rules_refusal_of as table_refusal_of_promise
 use Rattle.calls.specs.promises.table_size as table_size_promise
-use Rattle.calls.specs.promises.filling_number as filling_number_promise
 use Rattle.calls.specs.promises.seven_or as seven_or_promise
 use Rattle.calls.specs.promises.is_marked as is_marked_promise
 use Rattle.calls.specs.promises.speed_fill as speed_fill_promise
@@ -129,7 +127,6 @@ pub record LeavesSettled : Type 0 where
   pub is_full : OneAnswer is_full_promise.Post
   pub waiting : OneAnswer waiting_promise.Post
   pub base_only : OneAnswer base_only_promise.Post
-  pub written_number : OneAnswer written_number_promise.Post
   pub refusal_number : OneAnswer refusal_number_promise.Post
   pub opened_number : OneAnswer (number_in_promise.Post ℕ)
   pub job_number : OneAnswer job_number_promise.Post
@@ -141,7 +138,6 @@ pub record LeavesSettled : Type 0 where
   pub enhanced_plane : OneContent enhanced_plane_promise.Post (λ c. c.left.1.1.1.1.1.1.1.1.0.now)
   pub table_refusal_of : OneAnswer table_refusal_of_promise.Post
   pub table_size : OneAnswer table_size_promise.Post
-  pub filling_number : OneAnswer filling_number_promise.Post
   pub seven_or : OneAnswer seven_or_promise.Post
   pub is_marked : OneAnswer is_marked_promise.Post
   pub speed_fill : OneAnswer speed_fill_promise.Post
