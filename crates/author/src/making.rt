@@ -5,7 +5,6 @@ use crate::storing::store_block;
 use plan::Plan;
 use plan_text::{Made, line_of, make, version_of, why};
 use saying::{end_line, refused_at, say, say_argument, say_line_refusal, say_number, say_unread};
-use writer::Writing;
 
 // Why the text that argument i names is refused.
 fn say_fault(rt: &HostRuntime, i: usize, made: Made, text: &[u8]) {
@@ -32,7 +31,7 @@ fn say_too_long(rt: &HostRuntime, i: usize, length: usize) {
 // is longer than the room.
 fn write_plan(rt: &HostRuntime, plan: Plan, version: u16, output: usize) -> bool {
     let mut block = [0u8; BLOCK_ROOM];
-    let Writing::Written(n) = writer::write(plan, version, &mut block) else {
+    let Ok(n) = writer::write(plan, version, &mut block) else {
         say_argument(rt, output);
         say(b": the plan cannot be written\n");
         return false;

@@ -1,26 +1,20 @@
 -- Two outcomes that a promise allows are equal: each promise is an equation, and what an answer says determines it. Assumes nothing.
 use mathlib.Core.Path.{◌≡◌, refl, sym, ap, ap₂, ◌∙◌}
 use mathlib.Core.Bool.{true≢false}
+use mathlib.Core.List.{List, [], ◌∷◌}
+use Prim.Native.Nat.{ℕ}
 use lib.ListN.{get_or}
-use Rattle.refusals.specs.Refusals.{Outcome}
-use Rattle.compose.specs.declared.Composed.{Composed}
-use Rattle.compose.specs.declared.Composed.TheVariants as composed
+use Rattle.std.specs.Prelude.{Result, Ok, Err}
+use Rattle.refusals.specs.declared.Refusal.{Refusal}
+use Rattle.refusals.proofs.Laws.{number_of-some, number_of-injective, says-injective}
+use Rattle.refusals.specs.Refusals.{Outcome, number_in}
 use Rattle.compose.specs.Composing as composing
-use Rattle.writer.specs.declared.Writing.{Writing}
-use Rattle.writer.specs.declared.Writing.TheVariants as written
 use Rattle.writer.specs.Writing as writing
-use Rattle.jobs.specs.declared.Opened.{Opened}
-use Rattle.jobs.specs.declared.Opened.TheVariants as opened
 use Rattle.jobs.specs.Jobs.{opened_says}
 use Rattle.jobs.specs.declared.Answer.{Answer}
 use Rattle.jobs.specs.declared.Answer.TheVariants as answered
 use Rattle.jobs.specs.Jobs as jobs
-use Rattle.filling.specs.declared.Filling.{Filling}
-use Rattle.filling.specs.declared.Filling.TheVariants as filled
 use Rattle.filling.specs.Filling as filling
-use Rattle.table_jobs.specs.declared.TableAnswer.{TableAnswer}
-use Rattle.table_jobs.specs.declared.TableAnswer.TheVariants as looked_up
-use Rattle.table_jobs.specs.TableJobs as table_jobs
 use Rattle.calls.specs.Settled.{Settled}
 use Rattle.calls.specs.inner.Leaves.{LeavesSettled}
 
@@ -36,23 +30,21 @@ second_value e = ap (λ (x : Outcome). get_or x.values 1 0) e
 same_case : {o p : Outcome} → o ≡ p → o.refused ≡ p.refused
 same_case e = ap (λ (x : Outcome). x.refused) e
 
-one_composed : (r r' : Composed) → composing.says r ≡ composing.says r' → r ≡ r'
-one_composed composed.Written composed.Written e = refl
-one_composed composed.Written (composed.Refused k) e = absurd (true≢false (sym (same_case e)))
-one_composed (composed.Refused k) composed.Written e = absurd (true≢false (same_case e))
-one_composed (composed.Refused k) (composed.Refused l) e = ap composed.Refused (same_number e)
+one_composed : (r r' : Result (Unit {0}) Refusal) → composing.says r ≡ composing.says r' → r ≡ r'
+one_composed = says-injective (λ u. []) (λ u v e. refl)
 
-one_written : (r r' : Writing) → writing.says r ≡ writing.says r' → r ≡ r'
-one_written (written.Written n) (written.Written m) e = ap written.Written (same_value e)
-one_written (written.Written n) (written.Refused k) e = absurd (true≢false (sym (same_case e)))
-one_written (written.Refused k) (written.Written n) e = absurd (true≢false (same_case e))
-one_written (written.Refused k) (written.Refused l) e = ap written.Refused (same_number e)
+-- a refusal is told by its number
+one_refusal : (r r' : Result (Unit {0}) Refusal) → number_in r ≡ number_in r' → r ≡ r'
+one_refusal (Ok u) (Ok v) e = refl
+one_refusal (Ok u) (Err r) e = absurd (number_of-some r (sym e))
+one_refusal (Err r) (Ok v) e = absurd (number_of-some r e)
+one_refusal (Err r) (Err s) e = ap Err (number_of-injective r s e)
 
-one_opened : (r r' : Opened) → opened_says r ≡ opened_says r' → r ≡ r'
-one_opened (opened.Open t) (opened.Open u) e = ap opened.Open (same_value e)
-one_opened (opened.Open t) (opened.Refused k) e = absurd (true≢false (sym (same_case e)))
-one_opened (opened.Refused k) (opened.Open t) e = absurd (true≢false (same_case e))
-one_opened (opened.Refused k) (opened.Refused l) e = ap opened.Refused (same_number e)
+one_written : (r r' : Result ℕ Refusal) → writing.says r ≡ writing.says r' → r ≡ r'
+one_written = says-injective (λ n. n ∷ []) (λ n m e. ap (λ (l : List ℕ). get_or l 0 0) e)
+
+one_opened : (r r' : Result ℕ Refusal) → opened_says r ≡ opened_says r' → r ≡ r'
+one_opened = says-injective (λ t. t ∷ []) (λ t u e. ap (λ (l : List ℕ). get_or l 0 0) e)
 
 one_job : (r r' : Answer) → jobs.says r ≡ jobs.says r' → r ≡ r'
 one_job (answered.Done n u) (answered.Done m v) e = ap₂ answered.Done (same_value e) (second_value e)
@@ -60,17 +52,8 @@ one_job (answered.Done n u) (answered.Refused k) e = absurd (true≢false (sym (
 one_job (answered.Refused k) (answered.Done n u) e = absurd (true≢false (same_case e))
 one_job (answered.Refused k) (answered.Refused l) e = ap answered.Refused (same_number e)
 
-one_filled : (r r' : Filling) → filling.says r ≡ filling.says r' → r ≡ r'
-one_filled filled.Filled filled.Filled e = refl
-one_filled filled.Filled (filled.Refused k) e = absurd (true≢false (sym (same_case e)))
-one_filled (filled.Refused k) filled.Filled e = absurd (true≢false (same_case e))
-one_filled (filled.Refused k) (filled.Refused l) e = ap filled.Refused (same_number e)
-
-one_table_job : (r r' : TableAnswer) → table_jobs.says r ≡ table_jobs.says r' → r ≡ r'
-one_table_job (looked_up.Done n u) (looked_up.Done m v) e = ap₂ looked_up.Done (same_value e) (second_value e)
-one_table_job (looked_up.Done n u) (looked_up.Refused k) e = absurd (true≢false (sym (same_case e)))
-one_table_job (looked_up.Refused k) (looked_up.Done n u) e = absurd (true≢false (same_case e))
-one_table_job (looked_up.Refused k) (looked_up.Refused l) e = ap looked_up.Refused (same_number e)
+one_filled : (r r' : Result (Unit {0}) Refusal) → filling.says r ≡ filling.says r' → r ≡ r'
+one_filled = says-injective (λ u. []) (λ u v e. refl)
 
 pub settled : Settled
 settled =
@@ -92,7 +75,7 @@ settled =
       filled_table = λ κs a r r' s s' p q. p.1 ∙ sym q.1;
       compose_by_table = λ κs a r r' s s' p q. one_composed r r' (p.0 ∙ sym q.0);
       composed_by_table = λ κs a r r' s s' p q. p.1 ∙ sym q.1;
-      compose_table_job = λ κs a r r' s s' p q. one_table_job r r' (p.0 ∙ sym q.0);
+      compose_table_job = λ κs a r r' s s' p q. one_job r r' (p.0 ∙ sym q.0);
       table_job_output = λ κs a r r' s s' p q. p.1.0 ∙ sym q.1.0;
       table_job_marks = λ κs a r r' s s' p q. p.1.1 ∙ sym q.1.1;
     }
@@ -137,7 +120,7 @@ leaves_settled =
       copy_last = λ κs a r r' s s' p q. p ∙ sym q;
       chroma_size = λ κs a r r' s s' p q. p.0 ∙ sym q.0;
       picture_size = λ κs a r r' s s' p q. p ∙ sym q;
-      refusal_of = λ κs a r r' s s' p q. p ∙ sym q;
+      refusal_of = λ κs a r r' s s' p q. one_refusal r r' (p ∙ sym q);
       quantizes = λ κs a r r' s s' p q. p ∙ sym q;
       least = λ κs a r r' s s' p q. p ∙ sym q;
       plain_planes = λ κs a r r' s s' p q. p ∙ sym q;
@@ -156,22 +139,19 @@ leaves_settled =
       is_full = λ κs a r r' s s' p q. p ∙ sym q;
       waiting = λ κs a r r' s s' p q. p ∙ sym q;
       base_only = λ κs a r r' s s' p q. p ∙ sym q;
-      written_number = λ κs a r r' s s' p q. p ∙ sym q;
+      refusal_number = λ κs a r r' s s' p q. p ∙ sym q;
       opened_number = λ κs a r r' s s' p q. p ∙ sym q;
       job_number = λ κs a r r' s s' p q. p ∙ sym q;
       is_complete = λ κs a r r' s s' p q. p ∙ sym q;
       all_polynomials = λ κs a r r' s s' p q. p ∙ sym q;
-      refusal_of_pictures = λ κs a r r' s s' p q. p ∙ sym q;
+      refusal_of_pictures = λ κs a r r' s s' p q. one_refusal r r' (p ∙ sym q);
       is_wrong_length = λ κs a r r' s s' p q. p ∙ sym q;
       plain_plane = λ κs a r r' s s' p q. p ∙ sym q;
       enhanced_plane = λ κs a r r' s s' p q. p ∙ sym q;
-      table_refusal_of = λ κs a r r' s s' p q. p ∙ sym q;
+      table_refusal_of = λ κs a r r' s s' p q. one_refusal r r' (p ∙ sym q);
       table_size = λ κs a r r' s s' p q. p ∙ sym q;
-      filling_number = λ κs a r r' s s' p q. p ∙ sym q;
       seven_or = λ κs a r r' s s' p q. p ∙ sym q;
       is_marked = λ κs a r r' s s' p q. p ∙ sym q;
-      table_job_number = λ κs a r r' s s' p q. p ∙ sym q;
-      table_job_complete = λ κs a r r' s s' p q. p ∙ sym q;
       speed_fill = λ κs a r r' s s' p q. p.0 ∙ sym q.0;
       speed_table = λ κs a r r' s s' p q. p.1 ∙ sym q.1;
       speed_table_job = λ κs a r r' s s' p q. p.0 ∙ sym q.0;

@@ -5,7 +5,6 @@ use Rattle.refusals.specs.Refusals.{Outcome}
 use Rattle.plan.specs.declared.Plan.{Plan}
 use Rattle.jobs.specs.Jobs.{Job, job, table_job, says, opened_says}
 use Rattle.filling.specs.Filling.{says as filling_says}
-use Rattle.table_jobs.specs.TableJobs.{says as table_says}
 use Rattle.calls.specs.promises.open_picture as opening
 use Rattle.calls.specs.promises.compose_job as composing
 use Rattle.calls.specs.promises.fill_table as filling
@@ -99,7 +98,7 @@ table_done c =
       given = table_job c.handed.0 c.handed.1.0.now tickets.0 tickets.1.0 rows.0 rows.1.0 pictures.0.now pictures.1.0.now;
       before = memory pictures.1.1.0.now pictures.1.1.1.0.now;
       afterwards = memory left.1.1.0.now left.1.1.1.0.now;
-      said = table_says c.answered;
+      said = says c.answered;
     }
 
 -- a call of either

@@ -2,10 +2,8 @@ pub mod read
 pub mod compose_row_pairs
 pub mod makes_full
 pub mod marks_seen
-pub mod compose_number
 pub mod compose_picture_size
 pub mod fill_table
-pub mod filling_number
 pub mod table_size
 pub mod compose_job
 pub mod is_marked
@@ -13,7 +11,6 @@ pub mod seven_or
 pub mod jobs_is_complete
 pub mod jobs_number
 pub mod open_picture
-pub mod opened_number
 pub mod mapped_table
 pub mod base_only
 pub mod clear
@@ -46,6 +43,8 @@ pub mod residual_pair
 pub mod residual_table
 pub mod add_up_rows
 pub mod look_up_rows
+pub mod number_in
+pub mod refusal_number
 pub mod all_polynomials
 pub mod is_usable
 pub mod passes
@@ -74,9 +73,6 @@ pub mod lower_all
 pub mod sum_up
 pub mod compose_by_table
 pub mod compose_table_job
-pub mod table_jobs_is_complete
-pub mod table_jobs_number
 pub mod table_rules_refusal_of
 pub mod length
-pub mod writer_number
 pub mod write

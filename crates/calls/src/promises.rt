@@ -3,10 +3,8 @@ ghost use Rattle.calls.specs.promises.read.{Keeps as read_keeps};
 ghost use Rattle.calls.specs.promises.compose_row_pairs.{Keeps as compose_row_pairs_keeps};
 ghost use Rattle.calls.specs.promises.makes_full.{Keeps as makes_full_keeps};
 ghost use Rattle.calls.specs.promises.marks_seen.{Keeps as marks_seen_keeps};
-ghost use Rattle.calls.specs.promises.compose_number.{Keeps as compose_number_keeps};
 ghost use Rattle.calls.specs.promises.compose_picture_size.{Keeps as compose_picture_size_keeps};
 ghost use Rattle.calls.specs.promises.fill_table.{Keeps as fill_table_keeps};
-ghost use Rattle.calls.specs.promises.filling_number.{Keeps as filling_number_keeps};
 ghost use Rattle.calls.specs.promises.table_size.{Keeps as table_size_keeps};
 ghost use Rattle.calls.specs.promises.compose_job.{Keeps as compose_job_keeps};
 ghost use Rattle.calls.specs.promises.is_marked.{Keeps as is_marked_keeps};
@@ -14,7 +12,6 @@ ghost use Rattle.calls.specs.promises.seven_or.{Keeps as seven_or_keeps};
 ghost use Rattle.calls.specs.promises.jobs_is_complete.{Keeps as jobs_is_complete_keeps};
 ghost use Rattle.calls.specs.promises.jobs_number.{Keeps as jobs_number_keeps};
 ghost use Rattle.calls.specs.promises.open_picture.{Keeps as open_picture_keeps};
-ghost use Rattle.calls.specs.promises.opened_number.{Keeps as opened_number_keeps};
 ghost use Rattle.calls.specs.promises.mapped_table.{Keeps as mapped_table_keeps};
 ghost use Rattle.calls.specs.promises.base_only.{Keeps as base_only_keeps};
 ghost use Rattle.calls.specs.promises.clear.{Keeps as clear_keeps};
@@ -47,6 +44,8 @@ ghost use Rattle.calls.specs.promises.residual_pair.{Keeps as residual_pair_keep
 ghost use Rattle.calls.specs.promises.residual_table.{Keeps as residual_table_keeps};
 ghost use Rattle.calls.specs.promises.add_up_rows.{Keeps as add_up_rows_keeps};
 ghost use Rattle.calls.specs.promises.look_up_rows.{Keeps as look_up_rows_keeps};
+ghost use Rattle.calls.specs.promises.number_in.{Keeps as number_in_keeps};
+ghost use Rattle.calls.specs.promises.refusal_number.{Keeps as refusal_number_keeps};
 ghost use Rattle.calls.specs.promises.all_polynomials.{Keeps as all_polynomials_keeps};
 ghost use Rattle.calls.specs.promises.is_usable.{Keeps as is_usable_keeps};
 ghost use Rattle.calls.specs.promises.passes.{Keeps as passes_keeps};
@@ -75,11 +74,8 @@ ghost use Rattle.calls.specs.promises.lower_all.{Keeps as lower_all_keeps};
 ghost use Rattle.calls.specs.promises.sum_up.{Keeps as sum_up_keeps};
 ghost use Rattle.calls.specs.promises.compose_by_table.{Keeps as compose_by_table_keeps};
 ghost use Rattle.calls.specs.promises.compose_table_job.{Keeps as compose_table_job_keeps};
-ghost use Rattle.calls.specs.promises.table_jobs_is_complete.{Keeps as table_jobs_is_complete_keeps};
-ghost use Rattle.calls.specs.promises.table_jobs_number.{Keeps as table_jobs_number_keeps};
 ghost use Rattle.calls.specs.promises.table_rules_refusal_of.{Keeps as table_rules_refusal_of_keeps};
 ghost use Rattle.calls.specs.promises.length.{Keeps as length_keeps};
-ghost use Rattle.calls.specs.promises.writer_number.{Keeps as writer_number_keeps};
 ghost use Rattle.calls.specs.promises.write.{Keeps as write_keeps};
 
 pub fn read(bytes: &[u8]) -> block::Reading
@@ -96,7 +92,7 @@ pub fn compose_row_pairs(
     enhancement: &[u16],
     marks: &[u8],
     output: &mut [u16],
-) -> compose::Composed
+) -> Result<(), refusals::Refusal>
     ensures { compose_row_pairs_keeps plan first count base.now enhancement.now marks.now output.old result output.new }
 {
     compose::compose_row_pairs(plan, first, count, base, enhancement, marks, output)
@@ -114,28 +110,16 @@ pub fn marks_seen(h: plan::Header, marks: usize) -> usize
     compose::marks_seen(h, marks)
 }
 
-pub fn compose_number(c: compose::Composed) -> u8
-    ensures { compose_number_keeps c result }
-{
-    compose::number(c)
-}
-
 pub fn compose_picture_size(h: plan::Header) -> usize
     ensures { compose_picture_size_keeps h result }
 {
     compose::picture_size(h)
 }
 
-pub fn fill_table(plan: plan::Plan, table: &mut [u16]) -> filling::Filling
+pub fn fill_table(plan: plan::Plan, table: &mut [u16]) -> Result<(), refusals::Refusal>
     ensures { fill_table_keeps plan table.old result table.new }
 {
     filling::fill_table(plan, table)
-}
-
-pub fn filling_number(filling: filling::Filling) -> u8
-    ensures { filling_number_keeps filling result }
-{
-    filling::number(filling)
 }
 
 pub fn table_size(h: plan::Header) -> usize
@@ -176,34 +160,32 @@ pub fn is_marked(plan: plan::Plan, marks: usize) -> bool
     jobs::early::is_marked(plan, marks)
 }
 
-pub fn seven_or(plan: plan::Plan, number: u8) -> u8
-    ensures { seven_or_keeps plan number result }
+pub fn seven_or(plan: plan::Plan, refusal: refusals::Refusal) -> refusals::Refusal
+    ensures { seven_or_keeps plan refusal result }
 {
-    jobs::early::seven_or(plan, number)
+    jobs::early::seven_or(plan, refusal)
 }
 
 pub fn jobs_is_complete(answer: jobs::Answer) -> bool
     ensures { jobs_is_complete_keeps answer result }
 {
-    jobs::is_complete(answer)
+    answer.is_complete()
 }
 
 pub fn jobs_number(answer: jobs::Answer) -> u8
     ensures { jobs_number_keeps answer result }
 {
-    jobs::number(answer)
+    answer.number()
 }
 
-pub fn open_picture(plan: plan::Plan, ticket: u32, marks: &mut [u8]) -> jobs::Opened
+pub fn open_picture(
+    plan: plan::Plan,
+    ticket: u32,
+    marks: &mut [u8],
+) -> Result<u32, refusals::Refusal>
     ensures { open_picture_keeps plan ticket marks.old result marks.new }
 {
     jobs::open_picture(plan, ticket, marks)
-}
-
-pub fn opened_number(opened: jobs::Opened) -> u8
-    ensures { opened_number_keeps opened result }
-{
-    jobs::opened_number(opened)
 }
 
 pub fn mapped_table(h: plan::Header, c: plan::Component) -> mapping::Mapped
@@ -464,6 +446,18 @@ pub fn look_up_rows(
     rows::look_up_rows(table, p, r, marks, base, output)
 }
 
+pub fn refusal_number(refusal: refusals::Refusal) -> u8
+    ensures { refusal_number_keeps refusal result }
+{
+    refusal.number()
+}
+
+pub fn number_in<T: Copy>(answer: Result<T, refusals::Refusal>) -> u8
+    ensures { number_in_keeps answer result }
+{
+    refusals::number(answer)
+}
+
 pub fn all_polynomials(plan: plan::Plan) -> bool
     ensures { all_polynomials_keeps plan result }
 {
@@ -513,10 +507,16 @@ pub fn rules_refusal_of(
     base: &[u16],
     enhancement: &[u16],
     output: usize,
-) -> u8
+) -> Result<(), refusals::Refusal>
     ensures { rules_refusal_of_keeps plan first count base.now enhancement.now output result }
 {
-    rules::refusal_of(plan, first, count, base, enhancement, output)
+    let work = rules::Work {
+        first,
+        count,
+        base,
+        enhancement,
+    };
+    rules::refusal_of(plan, work, output)
 }
 
 pub fn refusal_of_pictures(
@@ -526,10 +526,16 @@ pub fn refusal_of_pictures(
     base: &[u16],
     enhancement: &[u16],
     output: usize,
-) -> u8
+) -> Result<(), refusals::Refusal>
     ensures { refusal_of_pictures_keeps h first count base.now enhancement.now output result }
 {
-    rules::refusal_of_pictures(h, first, count, base, enhancement, output)
+    let work = rules::Work {
+        first,
+        count,
+        base,
+        enhancement,
+    };
+    rules::refusal_of_pictures(h, work, output)
 }
 
 pub fn look_up_in_step(
@@ -700,7 +706,7 @@ pub fn compose_by_table(
     enhancement: &[u16],
     marks: &[u8],
     output: &mut [u16],
-) -> compose::Composed
+) -> Result<(), refusals::Refusal>
     ensures { compose_by_table_keeps plan table.now first count base.now enhancement.now marks.now output.old result output.new }
 {
     table_compose::compose_by_table(plan, table, first, count, base, enhancement, marks, output)
@@ -717,7 +723,7 @@ pub fn compose_table_job(
     enhancement: &[u16],
     output: &mut [u16],
     marks: &mut [u8],
-) -> table_jobs::TableAnswer
+) -> jobs::Answer
     ensures { compose_table_job_keeps plan table.now open_ticket ticket first count base.now enhancement.now output.old marks.old result output.new marks.new }
 {
     table_jobs::compose_table_job(
@@ -734,18 +740,6 @@ pub fn compose_table_job(
     )
 }
 
-pub fn table_jobs_is_complete(answer: table_jobs::TableAnswer) -> bool
-    ensures { table_jobs_is_complete_keeps answer result }
-{
-    table_jobs::is_complete(answer)
-}
-
-pub fn table_jobs_number(answer: table_jobs::TableAnswer) -> u8
-    ensures { table_jobs_number_keeps answer result }
-{
-    table_jobs::number(answer)
-}
-
 pub fn table_rules_refusal_of(
     plan: plan::Plan,
     table: &[u16],
@@ -754,10 +748,16 @@ pub fn table_rules_refusal_of(
     base: &[u16],
     enhancement: &[u16],
     output: usize,
-) -> u8
+) -> Result<(), refusals::Refusal>
     ensures { table_rules_refusal_of_keeps plan table.now first count base.now enhancement.now output result }
 {
-    table_rules::refusal_of(plan, table, first, count, base, enhancement, output)
+    let work = rules::Work {
+        first,
+        count,
+        base,
+        enhancement,
+    };
+    table_rules::refusal_of(plan, table, work, output)
 }
 
 pub fn length(plan: plan::Plan, version: u16) -> usize
@@ -766,13 +766,7 @@ pub fn length(plan: plan::Plan, version: u16) -> usize
     writer::length(plan, version)
 }
 
-pub fn writer_number(answer: writer::Writing) -> u8
-    ensures { writer_number_keeps answer result }
-{
-    writer::number(answer)
-}
-
-pub fn write(plan: plan::Plan, version: u16, out: &mut [u8]) -> writer::Writing
+pub fn write(plan: plan::Plan, version: u16, out: &mut [u8]) -> Result<usize, refusals::Refusal>
     ensures { write_keeps plan version out.old result out.new }
 {
     writer::write(plan, version, out)

@@ -2,20 +2,20 @@
 use mathlib.Core.Path.{◌≡◌, sym, ap, ◌∙◌}
 use mathlib.Core.Bool.{Bool, true, false, not, ◌&&◌, ◌||◌, cond, or-true, and-true}
 use mathlib.Core.List.{List, []}
-use Prim.Native.Nat.{ℕ, ◌+◌, ◌-◌, ◌^◌}
+use Prim.Native.Nat.{ℕ, ◌+◌, ◌^◌}
 use native.Mathlib.Omega.{arith}
 use lib.Dec.{eqb}
-use lib.ListN.{length}
+use lib.ListN.{length, take}
 use lib.Seq.{take_all}
 use borrow.Author.Tests.{ne_eqb}
 use Rattle.runs.specs.Runs.{painted, between}
 use Rattle.runs.proofs.Painting.{painted_cong}
-use Rattle.runs.proofs.Parts.{part}
 use Rattle.marks.specs.Marks.{full_at}
 use Rattle.marks.specs.inner.Marks.{not_full}
 use Rattle.marks.proofs.Keeping.{without_marks}
-use Rattle.refusals.specs.Refusals.{Outcome, granted, denied}
-use Rattle.refusals.proofs.Laws.{outcome-granted, outcome-denied}
+use Rattle.refusals.specs.declared.Refusal.{Refusal}
+use Rattle.refusals.specs.Refusals.{Outcome, granted, denied, number_of}
+use Rattle.refusals.proofs.Laws.{outcome-granted, outcome-denied, number_of-some}
 use Rattle.picture.specs.Picture.{pair_at}
 use Rattle.picture.specs.inner.Planes.{InPicture}
 use Rattle.plan.specs.Ranges.{bl_depth, el_depth}
@@ -30,9 +30,9 @@ use Rattle.compose.proofs.Samples.{CodesInPicture}
 abbrev Ends : Given → List ℕ → List ℕ → Outcome → List ℕ → Type 0
 Ends g marks output o after = (o ≡ answer g (length output)) × (after ≡ output_after g marks output)
 
-pub refused : (g : Given) (marks output : List ℕ) (k : ℕ) → k ≡ refusal g (length output) → (k ≡ 0 → ⊥) → Ends g marks output (denied k) output
+pub refused : (g : Given) (marks output : List ℕ) (r : Refusal) → number_of r ≡ refusal g (length output) → Ends g marks output (denied (number_of r)) output
 unfolding output_after
-refused g marks output k e n = (outcome-denied _ k _ (sym e) n, rw (← e, ne_eqb k 0 n))
+refused g marks output r e = (outcome-denied _ _ _ (sym e) (number_of-some r), rw (← e, ne_eqb (number_of r) 0 (number_of-some r)))
 
 -- the row pairs of the call
 abbrev pub rows_of : Given → Rows
@@ -51,9 +51,9 @@ module _ (g : Given) (marks : List ℕ) (k : ℕ) where
   all_named on = rw (on, or-true) (sym (and-true _))
 
   -- without one, by the part of the marks that is seen
-  pub kept_seen : used g.plan.header (length g.enhancement) ≡ false → (seen : ℕ) → seen ≡ marks_seen g.plan.header (length marks) → not_full g.first (g.first + g.count) (part 0 seen marks) k ≡ composes g marks k
+  pub kept_seen : used g.plan.header (length g.enhancement) ≡ false → (seen : ℕ) → seen ≡ marks_seen g.plan.header (length marks) → not_full g.first (g.first + g.count) (take seen marks) k ≡ composes g marks k
   unfolding composes names makes_full marks_seen not_full
-  kept_seen off seen is = rw off (ap (λ (n : ℕ). not_full first last (part 0 n marks) k) is ∙ go (eqb g.plan.header.disabled 1))
+  kept_seen off seen is = rw off (ap (λ (n : ℕ). not_full first last (take n marks) k) is ∙ go (eqb g.plan.header.disabled 1))
     where
       first : ℕ
       first = g.first
@@ -61,9 +61,9 @@ module _ (g : Given) (marks : List ℕ) (k : ℕ) where
       last : ℕ
       last = g.first + g.count
 
-      go : (u : Bool) → not_full first last (part 0 (cond u 0 (length marks)) marks) k ≡ (between first last k && ((u || false) || not (full_at marks k)))
+      go : (u : Bool) → not_full first last (take (cond u 0 (length marks)) marks) k ≡ (between first last k && ((u || false) || not (full_at marks k)))
       go true = without_marks first last k ∙ sym (and-true _)
-      go false = ap (λ (m : List ℕ). not_full first last m k) (take_all (length marks - 0) marks (omega arith))
+      go false = ap (λ (m : List ℕ). not_full first last m k) (take_all (length marks) marks (omega arith))
 
 -- ---- what acceptance gives to whoever composes
 module _ (g : Given) (n : ℕ) (e : 0 ≡ refusal g n) where

@@ -1,7 +1,8 @@
 -- The composing process (5.4) over a picture: what stands at each index of the output after a call, and what it answers.
-use Rattle.std.specs.Prelude.{Bool, not, ◌&&◌, ◌||◌, cond, List, [], ℕ, ◌+◌, ◌-◌, ◌*◌, ◌/◌, ◌%◌, ◌^◌, eqb, ℤ, pos, length, get_or}
+use Rattle.std.specs.Prelude.{Bool, not, ◌&&◌, ◌||◌, cond, List, [], ℕ, ◌+◌, ◌-◌, ◌*◌, ◌/◌, ◌%◌, ◌^◌, eqb, ℤ, pos, Result, length, get_or}
 use Rattle.runs.specs.Runs.{painted}
-use Rattle.refusals.specs.Refusals.{Outcome, granted, denied, outcome}
+use Rattle.refusals.specs.declared.Refusal.{Refusal}
+use Rattle.refusals.specs.Refusals.{Outcome, outcome, says as answer_says}
 use Rattle.standard.specs.Mapping.{mapped}
 use Rattle.standard.specs.Mmr.{down_sampled, chroma_mapped}
 use Rattle.standard.specs.Residual.{residual, reconstructed}
@@ -14,8 +15,6 @@ use Rattle.plan.specs.Ranges.{bl_depth, el_depth, hdr_depth}
 use Rattle.plan.specs.Parameters.{mapping, quantization}
 use Rattle.marks.specs.Marks.{full_at}
 use Rattle.rules.specs.Rules.{Source, by_plan, by_table, Given, extent, names, used, refusal}
-use Rattle.compose.specs.declared.Composed.{Composed}
-use Rattle.compose.specs.declared.Composed.TheVariants.{Written, Refused}
 
 -- the component of the sample at index i
 abbrev pub component_at : Plan → ℕ → Component
@@ -89,10 +88,9 @@ output_after g marks output =
     (painted (λ i. composes g marks (pair_at (extent g.plan.header) i)) (composed_by g.source g.plan g.base g.enhancement) output)
     output
 
--- what each case of the answer says, and what the call answers
-abbrev pub says : Composed → Outcome
-says Written = granted []
-says (Refused k) = denied k
+-- what the answer says, which holds no values, and what the call answers
+abbrev pub says : Result (Unit {0}) Refusal → Outcome
+says done = answer_says (λ u. []) done
 
 abbrev pub answer : Given → ℕ → Outcome
 answer g output-length = outcome (refusal g output-length) []

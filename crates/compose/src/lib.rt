@@ -10,25 +10,9 @@ ghost use Rattle.compose.specs.inner.Seen.{marks_seen};
 use picture::picture_size as size_of;
 use plan::{Header, Plan};
 use planes::{enhanced_planes, plain_planes};
+use refusals::Refusal;
 use rows::Rows;
-use rules::{extent_of, is_used, refusal_of};
-
-// What composing row pairs comes to: they are written, or the call is refused by a number and nothing is written.
-#[derive(Clone, Copy)]
-pub enum Composed {
-    Written,
-    Refused(u8),
-}
-
-// The refusal's number, 0 where the row pairs are written.
-pub fn number(c: Composed) -> u8
-    ensures { result ≡ (says c).number }
-{
-    match c {
-        Composed::Written => 0,
-        Composed::Refused(k) => k,
-    }
-}
+use rules::{Work, extent_of, is_used, refusal_of};
 
 // How many samples the run of a picture has, 3WH/2, whatever the header says.
 pub fn picture_size(h: Header) -> usize
@@ -38,6 +22,7 @@ pub fn picture_size(h: Header) -> usize
 }
 
 // Whether a call makes full row pairs: the flag is 1, or an enhancement picture is used.
+#[tactic(auto, unfolding(crate::specs::Composing::makes_full))]
 pub fn makes_full(h: Header, enhancement: usize) -> bool
     ensures { result ≡ makes_full h enhancement }
 {
@@ -45,6 +30,7 @@ pub fn makes_full(h: Header, enhancement: usize) -> bool
 }
 
 // How many of the marks a call without residual sees: where the flag is 1 its row pairs are full, and none is kept.
+#[tactic(auto, unfolding(crate::specs::inner::Seen::marks_seen))]
 pub fn marks_seen(h: Header, marks: usize) -> usize
     ensures is { result ≡ marks_seen h marks }
     ensures few { result ≤ marks }
@@ -63,23 +49,26 @@ pub fn compose_row_pairs(
     enhancement: &[u16],
     marks: &[u8],
     output: &mut [u16],
-) -> Composed
+) -> Result<(), Refusal>
     ensures answers { says result ≡ answer (given plan first count base.now enhancement.now) (length output.old) }
     ensures writes { output.new ≡ output_after (given plan first count base.now enhancement.now) marks.now output.old }
 {
-    let number = refusal_of(plan, first, count, base, enhancement, output.len());
-    if number != 0 {
-        return Composed::Refused(number);
-    }
+    let work = Work {
+        first,
+        count,
+        base,
+        enhancement,
+    };
+    refusal_of(plan, work, output.len())?;
     let r = Rows {
-        first: first,
+        first,
         last: first + count,
     };
     if is_used(plan.header, enhancement.len()) {
         enhanced_planes(plan, r, base, enhancement, output);
-        return Composed::Written;
+        return Ok(());
     }
     let seen = marks_seen(plan.header, marks.len());
-    plain_planes(plan, r, &marks[0..seen], base, output);
-    Composed::Written
+    plain_planes(plan, r, &marks[..seen], base, output);
+    Ok(())
 }

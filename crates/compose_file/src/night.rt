@@ -1,5 +1,5 @@
 // The jobs of one band, which is opened as a picture of its own height. With --standby or --late each of them is said.
-use jobs::{Answer, Opened, compose_job, is_complete, number, open_picture};
+use jobs::{Answer, compose_job, open_picture};
 use picture_files::bands::Band;
 use picture_files::group::Names;
 use picture_files::say_sample;
@@ -24,10 +24,10 @@ pub(crate) const COMPLETE: u8 = 2;
 
 // What a job's answer comes to. That nothing is left is for the proved function to say.
 fn state_of(answer: Answer) -> u8 {
-    if number(answer) != 0 {
+    if answer.number() != 0 {
         return REFUSED;
     }
-    if is_complete(answer) {
+    if answer.is_complete() {
         COMPLETE
     } else {
         ACCEPTED
@@ -73,7 +73,7 @@ fn say_answer(answer: Answer) {
     let Answer::Done(left, base_only) = answer else {
         return;
     };
-    if is_complete(answer) {
+    if answer.is_complete() {
         say(b": complete");
     } else {
         say(b": ");
@@ -128,7 +128,7 @@ fn send(
         output,
         marks,
     );
-    let refusal = number(answer);
+    let refusal = answer.number();
     if refusal != 0 {
         say_sample(rt, t.names, t.band, plan.header, refusal, j, base, brought);
         return REFUSED;
@@ -179,10 +179,10 @@ fn say_band(band: Band) {
 
 // Opens the band, as a picture of its height.
 pub(crate) fn open_band(plan: Plan, marks: &mut [u8]) -> bool {
-    let Opened::Open(_) = open_picture(plan, 1, marks) else {
+    if open_picture(plan, 1, marks).is_err() {
         say(b"the picture cannot be opened\n");
         return false;
-    };
+    }
     true
 }
 

@@ -1,19 +1,25 @@
 -- The three parts, one after the other, are the table of a plan; and what the table has for a code. Assumes nothing.
 use mathlib.Core.Path.{◌≡◌, refl, sym, ap, ap₂, ◌∙◌}
-use mathlib.Core.Bool.{Bool, true, false, not, ◌&&◌, cond}
+use mathlib.Core.Bool.{Bool, true, false, not, ◌&&◌, cond, true≢false}
 use mathlib.Core.List.{List, [], ◌∷◌}
 use Prim.Native.Nat.{ℕ, ◌+◌, ◌-◌, ◌*◌, ◌^◌, ◌<◌, ◌≤◌}
 use native.Mathlib.Nat.{mod-eq_of_lt, zero-add}
 use native.Mathlib.Omega.{arith}
 use lib.Arith.{digits_div, digits_mod}
-use lib.ListN.{length, get_or, length-replicate}
+use lib.Dec.{eqb}
+use lib.ListN.{length, take, get_or, length-replicate}
 use lib.Pow.{pow_mono}
 use lib.Seq.{ext_get_or}
-use borrow.Author.Tests.{eqb-true, ne_eqb}
+use borrow.Rule.Slice.PartMut.{put_mid}
+use mathlib.Core.Logic.{⊎_elim}
+use borrow.Author.Rules.{rules}
+use Rattle.std.proofs.lemmas.List.{places}
+use Rattle.std.specs.Prelude.{Some, None}
+use borrow.Author.Tests.{eqb-true, eq-eqb, ne_eqb}
 use Rattle.runs.specs.Runs.{painted, between}
 use Rattle.runs.specs.inner.Loops.{at}
-use Rattle.runs.proofs.Between.{in_between, between_true}
-use Rattle.runs.proofs.Painting.{length-painted, at-painted, painted_cong, painted_on}
+use Rattle.runs.proofs.Between.{lt_or_ge, in_between, under-between, over-between, between_true}
+use Rattle.runs.proofs.Painting.{length-painted, at-painted, is_painted, painted_cong, painted_on}
 use Rattle.refusals.specs.Refusals.{rule, Outcome, granted, denied}
 use Rattle.refusals.proofs.Laws.{none_met, not_off, outcome-granted, outcome-denied}
 use Rattle.standard.specs.Mapping.{mapped}
@@ -22,13 +28,13 @@ use Rattle.plan.specs.declared.Component.{Component}
 use Rattle.plan.specs.declared.Plan.{Plan}
 use Rattle.plan.specs.Ranges.{bl_depth}
 use Rattle.plan.specs.Parameters.{mapping}
-use Rattle.plan.specs.Rule7.{fitting, usable}
-use Rattle.plan.specs.Tables.{table_size, has_mmr}
+use Rattle.plan.specs.Rule7.{pieces_used, fitting, usable}
+use Rattle.plan.specs.Tables.{table_size, uses_mmr, has_mmr}
 use Rattle.plan.proofs.Facts.{header_facts}
 use Rattle.plan.proofs.Polynomials.{all_luma, polynomial-at}
-use Rattle.plan.proofs.Truths.{both}
-use Rattle.mapping.specs.inner.Mapped.{can_map, mapped_table}
-use Rattle.mapping.proofs.Mappable.{usable_maps}
+use Rattle.plan.proofs.Truths.{both, every_true}
+use Rattle.mapping.specs.inner.Mapped.{pieces_map, can_map, mapped_table, answer}
+use Rattle.mapping.proofs.Mappable.{pieces_facts, usable_maps}
 use Rattle.mapping.proofs.Meaning.{mapped-found}
 use Rattle.rules.specs.Rules.{table_rules}
 use Rattle.filling.specs.Filling.{filling_refusal, part_component, table_entry, filled, table_after, filling_answer}
@@ -75,6 +81,73 @@ module _ (p : Plan) (fits : fitting p ≡ true) (polynomials : has_mmr p ≡ fal
 
   pub cr_maps : can_map p.header p.cr ≡ true
   cr_maps = can p.cr (both (usable 0 p.header p.cb) _ (both (usable 0 p.header p.y) _ all-usable).1).1
+
+-- ---- which components have a table
+some_pieces : (c : Component) → pieces_map c ≡ true → uses_mmr c ≡ false
+unfolding uses_mmr
+some_pieces c e = ap not (every_true _ (pieces_used c.n) (λ p b. ap (λ (i : ℕ). not (eqb i 1)) (pieces_facts c e p b).method))
+
+-- where there is one it is the component's, and no piece that is used is MMR
+pub some_table : (h : Header) (c : Component) {t : List ℕ} → Some t ≡ answer h c → (t ≡ mapped_table h c) × (uses_mmr c ≡ false)
+some_table h c {t} e = go (can_map h c) refl
+  where
+    go : (b : Bool) → can_map h c ≡ b → (t ≡ mapped_table h c) × (uses_mmr c ≡ false)
+    go true p = let f = rw p at e in (cc, some_pieces c (both _ (pieces_map c) p).1)
+    go false p = let f = rw p at e in absurd cc
+
+no_table : (h : Header) (c : Component) → None ≡ answer h c → can_map h c ≡ false
+no_table h c e = go (can_map h c) refl
+  where
+    go : (b : Bool) → can_map h c ≡ b → b ≡ false
+    go true p = let f = rw p at e in absurd cc
+    go false p = refl
+
+module _ (p : Plan) (fits : fitting p ≡ true) where
+  met : (has_mmr p ≡ false → ⊥) → has_mmr p ≡ true
+  met f = go (has_mmr p) refl
+    where
+      go : (b : Bool) → has_mmr p ≡ b → b ≡ true
+      go true e = refl
+      go false e = absurd (f e)
+
+  pub no_y : None ≡ answer p.header p.y → has_mmr p ≡ true
+  no_y e = met (λ m. true≢false (sym (y_maps p fits m) ∙ no_table p.header p.y e))
+
+  pub no_cb : None ≡ answer p.header p.cb → has_mmr p ≡ true
+  no_cb e = met (λ m. true≢false (sym (cb_maps p fits m) ∙ no_table p.header p.cb e))
+
+  pub no_cr : None ≡ answer p.header p.cr → has_mmr p ≡ true
+  no_cr e = met (λ m. true≢false (sym (cr_maps p fits m) ∙ no_table p.header p.cr e))
+
+pub all_tables : (p : Plan) → uses_mmr p.y ≡ false → uses_mmr p.cb ≡ false → uses_mmr p.cr ≡ false → has_mmr p ≡ false
+unfolding has_mmr
+all_tables p a b c = rw (a, b, c)
+
+-- a part that was copied is painted
+module _ (mapped t : List ℕ) (from codes k : ℕ) (h : codes ≤ length mapped) (b : from + codes ≤ length t) (e : k ≡ codes) where
+  part_length : length (put_mid from k t (take codes mapped)) ≡ length t
+  part_length = search (rules, places)
+
+  part_before : (i : ℕ) → i < from → get_or (put_mid from k t (take codes mapped)) i 0 ≡ get_or t i 0
+  part_before i p = search (rules, places)
+
+  part_within : (i : ℕ) → from ≤ i → i < from + codes → get_or (put_mid from k t (take codes mapped)) i 0 ≡ at mapped (i - from)
+  part_within i p q = search (rules, places)
+
+  part_behind : (i : ℕ) → from + codes ≤ i → i < length t → get_or (put_mid from k t (take codes mapped)) i 0 ≡ get_or t i 0
+  part_behind i p q = search (rules, places)
+
+pub part_painted : (mapped t : List ℕ) (from codes : ℕ) → codes ≤ length mapped → from + codes ≤ length t → put_mid from (from + codes - from) t (take codes mapped) ≡ painted (between from (from + codes)) (λ i. at mapped (i - from)) t
+part_painted mapped t from codes h b =
+    let e : from + codes - from ≡ codes = omega arith in
+    is_painted _ _ t _ (part_length mapped t from codes _ h b e)
+    (λ i m. ⊎_elim
+    (λ p. part_before mapped t from codes _ h b e i p ∙ sym (ap (λ (u : Bool). cond u (at mapped (i - from)) (get_or t i 0)) (under-between from (from + codes) i p)))
+    (λ p. ⊎_elim
+    (λ q. part_within mapped t from codes _ h b e i p q ∙ sym (ap (λ (u : Bool). cond u (at mapped (i - from)) (get_or t i 0)) (in_between from (from + codes) i p q)))
+    (λ q. part_behind mapped t from codes _ h b e i q m ∙ sym (ap (λ (u : Bool). cond u (at mapped (i - from)) (get_or t i 0)) (over-between from (from + codes) i q)))
+    (lt_or_ge i (from + codes)))
+    (lt_or_ge i from))
 
 -- ---- the parts
 module _ (p : Plan) (t : List ℕ) (ok : Accepted p (length t)) where
@@ -129,6 +202,23 @@ module _ (p : Plan) (t : List ℕ) (ok : Accepted p (length t)) where
       ap (λ (l : List ℕ). at l i) all ∙ at-painted _ _ t i 0 (rw ok.long m) ∙ ap (λ (s : Bool). cond s (table_entry p i) (at t i)) (in_between 0 (2 * codes + codes) i (omega arith) (omega arith)) ∙ sym (at-filled p i m))
 
 -- ---- the ways that a filling can go
+pub seven : (p : Plan) (n : ℕ) → fitting p ≡ false → 7 ≡ filling_refusal p n
+unfolding filling_refusal
+seven p n e = rw e
+
+pub nine : (p : Plan) (n : ℕ) → fitting p ≡ true → (n ≡ table_size p.header → ⊥) → 9 ≡ filling_refusal p n
+unfolding filling_refusal
+nine p n e f = rw (e, ne_eqb n (table_size p.header) f)
+
+module _ (p : Plan) (n : ℕ) (fits : fitting p ≡ true) (long : n ≡ table_size p.header) where
+  pub thirteen : has_mmr p ≡ true → 13 ≡ filling_refusal p n
+  unfolding filling_refusal
+  thirteen e = rw (fits, eq-eqb n (table_size p.header) long, e)
+
+  pub none : has_mmr p ≡ false → 0 ≡ filling_refusal p n
+  unfolding filling_refusal
+  none e = rw (fits, eq-eqb n (table_size p.header) long, e)
+
 abbrev Ends : Plan → List ℕ → Outcome → List ℕ → Type 0
 Ends p t o after = (o ≡ filling_answer p (length t)) × (after ≡ table_after p t)
 

@@ -1,7 +1,8 @@
 -- Filling a table that is lent with the mapped samples of a plan: its rules, its answer, and what the table holds afterwards.
-use Rattle.std.specs.Prelude.{true, not, cond, List, [], ◌∷◌, ℕ, ◌/◌, ◌%◌, ◌^◌, eqb, length, replicate}
+use Rattle.std.specs.Prelude.{true, not, cond, List, [], ◌∷◌, ℕ, ◌/◌, ◌%◌, ◌^◌, eqb, length, replicate, Result}
 use Rattle.runs.specs.Runs.{painted}
-use Rattle.refusals.specs.Refusals.{rule, first_met, Outcome, granted, denied, outcome}
+use Rattle.refusals.specs.declared.Refusal.{Refusal}
+use Rattle.refusals.specs.Refusals.{rule, first_met, Outcome, outcome, says as told}
 use Rattle.standard.specs.Mapping.{mapped}
 use Rattle.plan.specs.declared.Component.{Component}
 use Rattle.plan.specs.declared.Plan.{Plan}
@@ -10,8 +11,6 @@ use Rattle.plan.specs.Parameters.{mapping}
 use Rattle.plan.specs.Rule7.{fitting}
 use Rattle.plan.specs.Tables.{table_size}
 use Rattle.rules.specs.Rules.{table_rules}
-use Rattle.filling.specs.declared.Filling.{Filling}
-use Rattle.filling.specs.declared.Filling.TheVariants.{Filled, Refused}
 
 -- rules 7, 9 (the table's length) and 13 (an MMR piece), in this order; 0 where none is met
 unfoldable pub filling_refusal : Plan → ℕ → ℕ
@@ -36,10 +35,10 @@ filled p = painted (λ i. true) (table_entry p) (replicate (table_size p.header)
 unfoldable pub table_after : Plan → List ℕ → List ℕ
 table_after p table = cond (eqb (filling_refusal p (length table)) 0) (filled p) table
 
--- what each case of the answer says, and what the call answers
-abbrev pub says : Filling → Outcome
-says Filled = granted []
-says (Refused k) = denied k
+-- what the answer says: filled, with no value, or refused, with the number alone
+abbrev pub says : Result (Unit {0}) Refusal → Outcome
+says result = told (λ u. []) result
 
+-- and what the call answers
 unfoldable pub filling_answer : Plan → ℕ → Outcome
 filling_answer p table-length = outcome (filling_refusal p table-length) []

@@ -54,8 +54,8 @@ module _ (j : Job) (output marks : List ℕ) where
   unfolding output_after
   untouched h = rw h
 
-pub every-sample : EverySample
-every-sample =
+pub every_sample_holds : EverySample
+every_sample_holds =
     record {
       composed = λ j output marks h i l c. sample_by j output marks true true h i l c;
       others = unchanged;

@@ -1,15 +1,16 @@
 -- An opening and a row job: their refusals, their answers, and what they leave in the output and in the marks.
-use Rattle.std.specs.Prelude.{◌≡◌, Bool, true, false, not, ◌&&◌, cond, List, [], ◌∷◌, ℕ, ◌<◌, eqb, length, get_or}
+use Rattle.std.specs.Prelude.{◌≡◌, Bool, true, false, not, ◌&&◌, cond, List, [], ◌∷◌, ℕ, ◌<◌, eqb, Result, length, get_or}
 use Rattle.runs.specs.Runs.{painted, tally}
-use Rattle.refusals.specs.Refusals.{Rule, rule, first_met, Outcome, granted, denied, outcome}
+use Rattle.refusals.specs.declared.Refusal.{Refusal}
+use Rattle.refusals.specs.Refusals.{Rule, rule, first_met, Outcome, granted, denied, outcome, says as answer_says}
 use Rattle.picture.specs.Picture.{pair_at}
 use Rattle.plan.specs.declared.Plan.{Plan}
 use Rattle.plan.specs.Rule7.{fitting}
-use Rattle.rules.specs.Rules.{Given, given, given_table, extent, rules}
+use Rattle.rules.specs.declared.Work.{Work}
+use Rattle.rules.specs.Rules.{Source, Given, given, given_work, given_table, extent, rules}
 use Rattle.marks.specs.Marks.{waits, base_only, full_at}
 use Rattle.compose.specs.Composing.{makes_full, composes, composed_by}
-use Rattle.jobs.specs.declared.Opened.{Opened}
-use Rattle.jobs.specs.declared.Opened.TheVariants as opened
+use Rattle.jobs.specs.declared.Left.{Left}
 use Rattle.jobs.specs.declared.Answer.{Answer}
 use Rattle.jobs.specs.declared.Answer.TheVariants.{Done, Refused}
 
@@ -20,10 +21,9 @@ opening_refusal p marks-length = first_met (rule 7 (not (fitting p)) ∷ rule 9 
 unfoldable pub opening_accepted : Plan → ℕ → Bool
 opening_accepted p marks-length = eqb (opening_refusal p marks-length) 0
 
--- what each case of the answer says: the ticket handed back, or the refusal's number alone
-abbrev pub opened_says : Opened → Outcome
-opened_says (opened.Open ticket) = granted (ticket ∷ [])
-opened_says (opened.Refused k) = denied k
+-- what the answer says: the ticket handed back, or the refusal's number alone
+abbrev pub opened_says : Result ℕ Refusal → Outcome
+opened_says opened = answer_says (λ ticket. ticket ∷ []) opened
 
 unfoldable pub opening_answer : Plan → ℕ → ℕ → Outcome
 opening_answer p ticket marks-length = outcome (opening_refusal p marks-length) (ticket ∷ [])
@@ -37,6 +37,9 @@ pub record Job : Type 0 where
   pub work : Given
   pub open_ticket : ℕ
   pub ticket : ℕ
+
+abbrev pub job_work : Source → Plan → ℕ → ℕ → Work → Job
+job_work s p o t w = record { work = given_work s p w; open_ticket = o; ticket = t }
 
 abbrev pub job : Plan → ℕ → ℕ → ℕ → ℕ → List ℕ → List ℕ → Job
 job p o t f n b e = record { work = given p f n b e; open_ticket = o; ticket = t }
@@ -85,6 +88,10 @@ marks_after j output marks =
 abbrev pub says : Answer → Outcome
 says (Done left base_only) = granted (left ∷ base_only ∷ [])
 says (Refused k) = denied k
+
+-- the same of the rows left, or the rule by which it is refused, of which such an answer is made
+abbrev pub left_says : Result Left Refusal → Outcome
+left_says done = answer_says (λ left. left.waiting ∷ left.base_only ∷ []) done
 
 -- rows left are the marks that wait after the job, and beside them stand those that are base only
 unfoldable pub job_answer : Job → List ℕ → List ℕ → Outcome

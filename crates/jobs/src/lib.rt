@@ -1,71 +1,104 @@
 // A picture is opened, and its row pairs are composed by jobs that may come in any order and any number of times.
 #![tactic(auto)]
 
+pub mod by; // a job, whatever composes its row pairs
 pub mod early; // the rules before any picture is looked at
 
 ghost use Rattle.std.specs.Prelude.{◌≡◌, length};
-ghost use Rattle.jobs.specs.Jobs.{job, says, job_answer, output_after, marks_after, complete, EverySample, opened_says, opening_answer, opening_marks};
+ghost use Rattle.rules.specs.Rules.{by_plan};
+ghost use Rattle.jobs.specs.Jobs.{job, says, left_says, job_answer, output_after, marks_after, complete, EverySample, opened_says, opening_answer, opening_marks};
 
-use compose::{compose_row_pairs, makes_full};
-use early::{is_marked, opening_number_of, seven_or};
-use marks::{base_only, clear, mark, waiting};
+use by::{Composer, job_by};
+use compose::compose_row_pairs;
+use early::refusal_of_opening;
+use marks::clear;
 use plan::Plan;
+use refusals::Refusal;
+use rules::Work;
 
-// An opening hands its ticket back as the opened picture's, or is refused by a number.
+// How many row pairs of a picture still wait, and how many are base only.
 #[derive(Clone, Copy)]
-pub enum Opened {
-    Open(u32),
-    Refused(u8),
+pub struct Left {
+    pub waiting: usize,
+    pub base_only: usize,
 }
 
-// A job is done, with the row pairs that still wait and those that are base only, or is refused by a number.
+// A job is done, with the row pairs that still wait and those that are base only, or is refused by a number: the one that a
+// player's log and the C boundary take.
 #[derive(Clone, Copy)]
 pub enum Answer {
     Done(usize, usize),
     Refused(u8),
 }
 
-// The refusal's number, 0 where the picture is open.
-pub fn opened_number(opened: Opened) -> u8
-    ensures { result ≡ (opened_says opened).number }
-{
-    match opened {
-        Opened::Open(_) => 0,
-        Opened::Refused(k) => k,
+impl Answer {
+    // The refusal's number, 0 where the job is done.
+    pub fn number(self) -> u8
+        ensures { result ≡ (says self).number }
+    {
+        match self {
+            Answer::Done(_, _) => 0,
+            Answer::Refused(number) => number,
+        }
+    }
+
+    // Whether the job is done and no row pair waits any more.
+    pub fn is_complete(self) -> bool
+        ensures { result ≡ complete (says self) }
+    {
+        match self {
+            Answer::Done(rows_left, _) => rows_left == 0,
+            Answer::Refused(_) => false,
+        }
     }
 }
 
-// The refusal's number, 0 where the job is done.
-pub fn number(answer: Answer) -> u8
-    ensures { result ≡ (says answer).number }
-{
-    match answer {
-        Answer::Done(_, _) => 0,
-        Answer::Refused(k) => k,
+impl From<Result<Left, Refusal>> for Answer {
+    ghost from_gives = { λ done answer. says answer ≡ left_says done };
+
+    fn from(done: Result<Left, Refusal>) -> Answer {
+        match done {
+            Ok(left) => Answer::Done(left.waiting, left.base_only),
+            Err(refusal) => Answer::Refused(refusal.number()),
+        }
     }
 }
 
-// Whether the job is done and no row pair waits any more.
-pub fn is_complete(answer: Answer) -> bool
-    ensures { result ≡ complete (says answer) }
-{
-    match answer {
-        Answer::Done(rows_left, _) => rows_left == 0,
-        Answer::Refused(_) => false,
+// The composing process itself, which works mapped samples out by the plan.
+#[derive(Clone, Copy)]
+struct ByPlan;
+
+impl Composer for ByPlan {
+    ghost source = { λ s. by_plan };
+
+    fn compose(
+        self,
+        plan: Plan,
+        work: Work<'_>,
+        marks: &[u8],
+        output: &mut [u16],
+    ) -> Result<(), Refusal> {
+        compose_row_pairs(
+            plan,
+            work.first,
+            work.count,
+            work.base,
+            work.enhancement,
+            marks,
+            output,
+        )
     }
 }
 
-// Opens a picture: every row pair waits. Refused by rule 7 or 9, in this order, it writes nothing.
-pub fn open_picture(plan: Plan, ticket: u32, marks: &mut [u8]) -> Opened
+// Opens a picture: every row pair waits, and the ticket is handed back as the opened picture's. Refused by rule 7 or 9, in this
+// order, it writes nothing.
+pub fn open_picture(plan: Plan, ticket: u32, marks: &mut [u8]) -> Result<u32, Refusal>
     ensures answers { opened_says result ≡ opening_answer plan ticket (length marks.old) }
     ensures marking { marks.new ≡ opening_marks plan marks.old }
 {
-    let number = opening_number_of(plan, marks.len());
-    if number != 0 {
-        return Opened::Refused(number);
-    }
+    refusal_of_opening(plan, marks.len())?;
     clear(marks);
-    Opened::Open(ticket)
+    Ok(ticket)
 }
 
 // Composes `count` row pairs from `first` on and marks them: all of them as full where the flag is 1 or an enhancement is used,
@@ -86,29 +119,18 @@ pub fn compose_job(
     ensures writes { output.new ≡ output_after (job plan open_ticket ticket first count base.now enhancement.now) output.old marks.old }
     ensures marking { marks.new ≡ marks_after (job plan open_ticket ticket first count base.now enhancement.now) output.old marks.old }
 {
-    // Rule 7 comes before 8 and 9. Composing tests it too, so it is tested here only where one of these two is met.
-    if ticket != open_ticket {
-        return Answer::Refused(seven_or(plan, 8));
-    }
-    if !is_marked(plan, marks.len()) {
-        return Answer::Refused(seven_or(plan, 9));
-    }
-    let full = makes_full(plan.header, enhancement.len());
-    // Composing tests 7, the pictures' lengths (9), 10 and 11 in this order, and where it refuses it writes nothing.
-    let composed = compose_row_pairs(plan, first, count, base, enhancement, marks, output);
-    let refusal = compose::number(composed);
-    if refusal != 0 {
-        return Answer::Refused(refusal);
-    }
-    let last = first + count;
-    mark(full, first, last, marks);
-    // A job may come again, so the row pairs left are counted and never worked out from those left before.
-    let left = waiting(marks);
-    let unfilled = base_only(marks);
-    Answer::Done(left, unfilled)
+    let work = Work {
+        first,
+        count,
+        base,
+        enhancement,
+    };
+    let done = job_by(ByPlan, plan, open_ticket, ticket, work, output, marks);
+    Answer::from(done)
 }
 
 // Carries demand 2, so that the gate names it: what a job writes is the composing process of clause 5.4, sample by sample.
+#[tactic(auto, using(crate::proofs::Samples::every_sample_holds))]
 pub fn every_sample()
     ensures { EverySample }
 {}

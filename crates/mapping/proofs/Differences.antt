@@ -11,7 +11,8 @@ use Rattle.words.proofs.Integers.{distrib_pos, swap_terms}
 use Rattle.standard.specs.Mapping.{weight, poly_sum}
 use Rattle.standard.proofs.Polynomials.{three-terms}
 use Rattle.standard.proofs.Weights.{weight_le}
-use Rattle.mapping.specs.inner.Steps.{coef, growth, bend, RowRanges}
+use Rattle.mapping.specs.inner.Copies.{coef}
+use Rattle.mapping.specs.inner.Steps.{growth, bend, RowRanges}
 
 module _ (depth : ℕ) (row : List ℤ) (s : ℕ) where
   abbrev u : ℕ

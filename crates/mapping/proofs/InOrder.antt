@@ -4,7 +4,6 @@ use mathlib.Core.List.{List}
 use Prim.Native.Nat.{ℕ, ◌+◌, ◌<◌, ◌≤◌}
 use native.Mathlib.Nat.{le_trans, lt_irrefl}
 use native.Mathlib.Omega.{arith}
-use lib.IntN.{ℤ}
 use Rattle.runs.specs.inner.Loops.{at}
 use Rattle.runs.proofs.Tables.{at_table}
 use Rattle.standard.specs.Mapping.{pivot_value, pivot_idx, clamped}
@@ -12,7 +11,9 @@ use Rattle.standard.proofs.Pieces.{is_idx}
 use Rattle.standard.proofs.Pivots.{rising}
 use Rattle.plan.specs.Ranges.{most_n}
 use Rattle.plan.specs.Rule7.{pivot_places}
-use Rattle.mapping.specs.inner.Steps.{by_row, row_of, mapped_by, pivots_by}
+use Rattle.mapping.specs.inner.Steps.{by_row, mapped_by, pivots_by}
+use Rattle.mapping.specs.inner.Copies.{row_of}
+use Rattle.mapping.specs.declared.copies.Polynomial.{Polynomial}
 
 module _ (preds : List ℕ) {pivots : List ℕ} (sums : pivots ≡ pivots_by preds) where
   pivot_is : (i : ℕ) → i < pivot_places → at pivots i ≡ pivot_value (at preds) i
@@ -26,25 +27,25 @@ module _ (preds : List ℕ) {pivots : List ℕ} (sums : pivots ≡ pivots_by pre
   pub rises : (i k : ℕ) → i ≤ k → k < pivot_places → at pivots i ≤ at pivots k
   rises i k h b = rw (pivot_is i (omega arith), pivot_is k b) (rising (at preds) i k h)
 
-  module _ (depth d n : ℕ) (rows : List (List ℤ)) (few : n ≤ most_n) where
+  module _ (depth d n : ℕ) (polynomials : List Polynomial) (few : n ≤ most_n) where
     -- by the piece and the clamped code
-    mapped_as : {p t : ℕ} (j : ℕ) → p ≡ pivot_idx (at pivots) n j → t ≡ clamped (at pivots 0) (at pivots (n + 1)) j → by_row depth d (row_of rows p) t ≡ mapped_by depth d n pivots rows j
+    mapped_as : {p t : ℕ} (j : ℕ) → p ≡ pivot_idx (at pivots) n j → t ≡ clamped (at pivots 0) (at pivots (n + 1)) j → by_row depth d (row_of polynomials p) t ≡ mapped_by depth d n pivots polynomials j
     unfolding mapped_by
-    mapped_as j e f = ap₂ (λ (p t : ℕ). by_row depth d (row_of rows p) t) e f
+    mapped_as j e f = ap₂ (λ (p t : ℕ). by_row depth d (row_of polynomials p) t) e f
 
-    pub below_first : (j : ℕ) → j < at pivots 0 → by_row depth d (row_of rows 0) (at pivots 0) ≡ mapped_by depth d n pivots rows j
+    pub below_first : (j : ℕ) → j < at pivots 0 → by_row depth d (row_of polynomials 0) (at pivots 0) ≡ mapped_by depth d n pivots polynomials j
     below_first j b =
         mapped_as j
         (is_idx (at pivots) j n 0 (omega arith) (λ i k. absurd (omega arith)) (λ k. omega (arith, rises 0 1 (omega arith) (omega arith))))
         (omega (arith, rises 0 (n + 1) (omega arith) (omega arith)))
 
-    pub in_piece : (p j : ℕ) → p ≤ n → at pivots p ≤ j → j < at pivots (p + 1) → by_row depth d (row_of rows p) j ≡ mapped_by depth d n pivots rows j
+    pub in_piece : (p j : ℕ) → p ≤ n → at pivots p ≤ j → j < at pivots (p + 1) → by_row depth d (row_of polynomials p) j ≡ mapped_by depth d n pivots polynomials j
     in_piece p j h a b =
         mapped_as j
         (is_idx (at pivots) j n p (omega arith) (λ i k. le_trans (rises (i + 1) p (omega arith) (omega arith)) a) (λ k. b))
         (omega (arith, rises 0 p (omega arith) (omega arith), rises (p + 1) (n + 1) (omega arith) (omega arith)))
 
-    pub from_last : (j : ℕ) → at pivots (n + 1) ≤ j → by_row depth d (row_of rows (n + 1)) (at pivots (n + 1)) ≡ mapped_by depth d n pivots rows j
+    pub from_last : (j : ℕ) → at pivots (n + 1) ≤ j → by_row depth d (row_of polynomials (n + 1)) (at pivots (n + 1)) ≡ mapped_by depth d n pivots polynomials j
     from_last j a =
         mapped_as j
         (is_idx (at pivots) j n (n + 1) (omega arith) (λ i k. le_trans (rises (i + 1) (n + 1) (omega arith) (omega arith)) a) (λ k. absurd (lt_irrefl (n + 1) k)))

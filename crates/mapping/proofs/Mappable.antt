@@ -1,14 +1,13 @@
 -- What a component that can be mapped gives, and that one that passes rule 7 can be. Assumes nothing.
-use mathlib.Core.Path.{◌≡◌, refl, sym, ap, ◌∙◌}
-use mathlib.Core.Bool.{Bool, true, false, ◌&&◌, and-true, cond}
+use mathlib.Core.Path.{◌≡◌, refl, ap}
+use mathlib.Core.Bool.{Bool, true, false, cond}
 use Prim.Native.Nat.{ℕ, zero, suc, ◌+◌, ◌*◌, ◌^◌, ◌<◌, ◌≤◌}
 use native.Mathlib.Nat.{le_trans, mul-le-mul_left}
 use native.Mathlib.Omega.{arith}
-use lib.Dec.{leb, ltb, eqb, leb-zero, leb-suc-zero, leb-suc-suc}
-use lib.IntN.{ℤ, pos, negsuc, neg_ℤ, nat_abs, ◌-ℤ◌, +ℤ_idl}
+use lib.Dec.{leb, ltb, eqb}
+use lib.IntN.{pos, nat_abs}
 use lib.ListN.{get_or}
 use lib.Pow.{pow_mono}
-use lib.Signed.{le_z}
 use borrow.Author.Tests.{eqb-true, leb-true, ltb-true, le-leb, lt-ltb}
 use Rattle.runs.specs.inner.Loops.{at}
 use Rattle.plan.specs.declared.Header.{Header}
@@ -20,17 +19,7 @@ use Rattle.plan.specs.inner.Facts.{HeaderFacts, PieceFacts, ComponentFacts}
 use Rattle.plan.proofs.Facts.{header-kept, component_facts}
 use Rattle.plan.proofs.Truths.{both, every-at, every_true}
 use Rattle.mapping.specs.inner.Mapped.{frame_maps, order_by, piece_maps, pieces_map, can_map}
-use Rattle.mapping.specs.inner.Steps.{coef}
-
--- two tests of an integer are one of its size
-pub between : (top : ℕ) (z : ℤ) → (le_z (pos 0 -ℤ pos top) z && le_z z (pos top)) ≡ leb (nat_abs z) top
-between top z = ap (λ (low : ℤ). le_z low z && le_z z (pos top)) (+ℤ_idl (neg_ℤ (pos top))) ∙ go top z
-  where
-    go : (top : ℕ) (z : ℤ) → (le_z (neg_ℤ (pos top)) z && le_z z (pos top)) ≡ leb (nat_abs z) top
-    go zero (pos m) = rw (leb-zero m)
-    go (suc top) (pos m) = refl
-    go zero (negsuc m) = sym (leb-suc-zero m)
-    go (suc top) (negsuc m) = rw (and-true, leb-suc-suc m top)
+use Rattle.mapping.specs.inner.Copies.{coef}
 
 -- ---- what the tests give
 pub record FrameFacts (h : Header) (n : ℕ) (preds : ℕ → ℕ) : Type 0 where

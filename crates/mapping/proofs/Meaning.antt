@@ -1,18 +1,19 @@
 -- What stands in the table of mapped samples, and that summed pivots and rows of three give it. Assumes nothing.
 use mathlib.Core.Path.{◌≡◌, refl, sym, ap, ap₂, ◌∙◌}
 use mathlib.Core.Bool.{Bool, true, false, ◌&&◌}
-use mathlib.Core.List.{List, []}
-use mathlib.Core.Logic.{⊎_elim}
+use mathlib.Core.List.{List}
 use Prim.Native.Nat.{ℕ, zero, suc, ◌+◌, ◌%◌, ◌<◌, ◌≤◌, ◌^◌}
-use native.Mathlib.Nat.{le_antisymm, eq-or-lt_of_le, lt_of_lt_of_le, mod-eq_of_lt}
+use native.Mathlib.Nat.{lt_of_lt_of_le, mod-eq_of_lt}
 use native.Mathlib.Omega.{arith}
 use lib.IntN.{ℤ, nat_abs}
-use lib.ListN.{get_or, set, replicate, length-set, length-replicate}
+use lib.ListN.{length, get_or, take}
+use Rattle.std.specs.Prelude.{Some, None}
+use Rattle.std.proofs.lemmas.List.{get_or-take, length-take}
 use lib.Pow.{pow_pos, pow_mono}
-use lib.Seq.{ext_get_or, get_or-set_same, get_or-set_other}
+use lib.Seq.{ext_get_or}
 use Rattle.runs.specs.inner.Loops.{at}
 use Rattle.runs.specs.inner.Tables.{table, coded}
-use Rattle.runs.proofs.Tables.{length-table, at_table, coded_in, no_codes}
+use Rattle.runs.proofs.Tables.{length-table, at_table, coded_in}
 use Rattle.standard.specs.Parameters.{Mapping}
 use Rattle.standard.specs.Mapping.{pivot_value, pivot_idx, clamped, mapped, polynomial, poly_sum, cut}
 use Rattle.standard.proofs.Pieces.{idx_cong, idx_le}
@@ -26,51 +27,26 @@ use Rattle.plan.specs.inner.Facts.{Arrays}
 use Rattle.plan.proofs.Anywhere.{anywhere}
 use Rattle.plan.proofs.Coefficients.{zero_abs}
 use Rattle.plan.proofs.Truths.{both, every_cong}
-use Rattle.mapping.specs.inner.Mapped.{frame_maps, polynomial_maps, order_by, pieces_map, can_map, mapped_table, with_table, not_mapped, answer}
-use Rattle.mapping.specs.inner.Steps.{coef, kept, row_of, CopiedOrders, CopiedRows, ByRows, mapped_by, pivots_by, table_by}
+use Rattle.mapping.specs.declared.copies.Polynomial.{Polynomial}
+use Rattle.mapping.specs.inner.Copies.{coef, kept, no_polynomial, polynomial_of, row_of, Copied}
+use Rattle.mapping.specs.inner.Mapped.{frame_maps, polynomial_maps, pieces_map, can_map, mapped_table, answer}
+use Rattle.mapping.specs.inner.Steps.{ByRows, mapped_by, pivots_by, table_by}
 use Rattle.mapping.proofs.Mappable.{frame_facts, pieces_facts}
 
--- ---- what is copied of the pieces, one after the other
-last : (p j : ℕ) → j < p + 1 → j ≤ p
-last p j q = omega arith
-
-pub no_orders : (c : Component) → CopiedOrders c (replicate piece_places 0) 0
-no_orders c = record { long = length-replicate {A = ℕ} piece_places 0; order = λ j h. absurd (omega arith) }
-
-pub one_order : {c : Component} {orders : List ℕ} {p v : ℕ} → CopiedOrders c orders p → p < piece_places → v ≡ (let q = get_or c.pieces p no_piece in order_by q.idc q.order) → CopiedOrders c (set orders p v) (p + 1)
-one_order {orders = orders} {p = p} {v = v} h b e =
-    record {
-      long = length-set orders p v ∙ h.long;
-      order = λ j k. ⊎_elim (λ q. rw q (get_or-set_same orders p v 0 (rw h.long b) ∙ e)) (λ q. get_or-set_other orders p j v 0 (λ z. omega arith) ∙ h.order j q) (eq-or-lt_of_le (last p j k));
-    }
-
-pub all_orders : {c : Component} {orders : List ℕ} {p n : ℕ} → p ≤ n → n ≤ p → CopiedOrders c orders p → CopiedOrders c orders n
-all_orders h k r = rw (le_antisymm k h) r
-
-pub no_rows : (c : Component) (row : List ℤ) → CopiedRows c (replicate piece_places row) 0
-no_rows c row = record { long = length-replicate piece_places row; row = λ j h. absurd (omega arith) }
-
-pub one_row : {c : Component} {rows : List (List ℤ)} {p : ℕ} {v : List ℤ} → CopiedRows c rows p → p < piece_places → v ≡ kept (get_or c.pieces p no_piece).row → CopiedRows c (set rows p v) (p + 1)
-one_row {rows = rows} {p = p} {v = v} h b e =
-    record {
-      long = length-set rows p v ∙ h.long;
-      row = λ j k. ⊎_elim (λ q. rw q (get_or-set_same rows p v [] (rw h.long b) ∙ e)) (λ q. get_or-set_other rows p j v [] (λ z. omega arith) ∙ h.row j q) (eq-or-lt_of_le (last p j k));
-    }
-
-pub all_rows : {c : Component} {rows : List (List ℤ)} {p n : ℕ} → p ≤ n → n ≤ p → CopiedRows c rows p → CopiedRows c rows n
-all_rows h k r = rw (le_antisymm k h) r
-
 -- the test of what is copied is that of the pieces
-pub pieces_as : (c : Component) {orders : List ℕ} {rows : List (List ℤ)} → c.n ≤ most_n → CopiedOrders c orders piece_places → CopiedRows c rows piece_places → every (pieces_used c.n) (λ p. polynomial_maps (at orders p) (row_of rows p)) ≡ pieces_map c
-pieces_as c {orders} {rows} few o r = every_cong (pieces_used c.n) (λ p b. ap₂ polynomial_maps (o.order p (omega arith)) (r.row p (omega arith)))
+pub pieces_as : (c : Component) {polynomials : List Polynomial} → c.n ≤ most_n → Copied c.pieces polynomials piece_places → {n : ℕ} → n ≡ c.n + 2 → every (length (take n polynomials)) (λ p. let q = polynomial_of (take n polynomials) p in polynomial_maps q.order q.row) ≡ pieces_map c
+pieces_as c {polynomials} few o {n} e =
+    let long : length (take n polynomials) ≡ pieces_used c.n = omega (arith, length-take n polynomials, o.long) in
+    rw long
+    (every_cong (pieces_used c.n)
+    (λ p b. ap (λ (q : Polynomial). polynomial_maps q.order q.row) (get_or-take n polynomials p no_polynomial (omega arith) ∙ o.each p (omega arith))))
 
 -- the sum reads no other coefficient than those that are kept
 kept_le : (row : List ℤ) {most : ℕ} → ((i : ℕ) → i < 3 → nat_abs (coef row i) ≤ most) → (i : ℕ) → nat_abs (coef (kept row) i) ≤ most
 kept_le row b zero = b 0 (omega arith)
 kept_le row b (suc zero) = b 1 (omega arith)
 kept_le row b (suc (suc zero)) = b 2 (omega arith)
-kept_le row b (suc (suc (suc zero))) = omega arith
-kept_le row b (suc (suc (suc (suc i)))) = omega arith
+kept_le row b (suc (suc (suc i))) = omega arith
 
 by_kept : (depth d t : ℕ) {row : List ℤ} (all : List ℤ) → row ≡ kept all → cut d (poly_sum depth t (coef row) 2) ≡ cut d (poly_sum depth t (coef all) 2)
 unfolding poly_sum
@@ -86,8 +62,11 @@ same_codes n m f g e same =
     at_table n _ j k ∙ (rw (e, same j)) ∙ sym (at_table n _ j k))
 
 -- of a component that can be mapped, with the rows of all pieces that are used
-module _ (h : Header) (c : Component) (rows : List (List ℤ)) (frame : frame_maps h c.n c.preds ≡ true) (pieces : pieces_map c ≡ true) (copied : CopiedRows c rows piece_places) where
-  pub can_by_rows : Arrays c → ByRows (bl_depth h) h.d c.n c.preds rows
+module _ (h : Header) (c : Component) (polynomials : List Polynomial) (frame : frame_maps h c.n c.preds ≡ true) (pieces : pieces_map c ≡ true) (read : Copied c.pieces polynomials piece_places) where
+  row_is : (p : ℕ) → p < piece_places → row_of polynomials p ≡ kept (get_or c.pieces p no_piece).row
+  row_is p b = ap (λ (q : Polynomial). q.row) (read.each p b)
+
+  pub can_by_rows : Arrays c → ByRows (bl_depth h) h.d c.n c.preds polynomials
   can_by_rows a =
       let f = frame_facts h c frame in
       record {
@@ -95,11 +74,11 @@ module _ (h : Header) (c : Component) (rows : List (List ℤ)) (frame : frame_ma
         denominator = f.denominator;
         count = f.count;
         pivot = anywhere (λ (v : ℕ). v < 2 ^ bl_depth h) c.preds 0 a.preds (pow_pos (bl_depth h)) f.pivot;
-        coefficient = λ p i b. rw (copied.row p (omega (arith, f.count))) (kept_le (get_or c.pieces p no_piece).row (pieces_facts c pieces p b).coefficient i);
+        coefficient = λ p i b. rw (row_is p (omega (arith, f.count))) (kept_le (get_or c.pieces p no_piece).row (pieces_facts c pieces p b).coefficient i);
       }
 
   -- the three terms with summed pivots are the standard's mapping
-  mapped_is : (s : ℕ) → mapped_by (bl_depth h) h.d c.n (pivots_by c.preds) rows s ≡ mapped (bl_depth h) h.d (mapping c) s
+  mapped_is : (s : ℕ) → mapped_by (bl_depth h) h.d c.n (pivots_by c.preds) polynomials s ≡ mapped (bl_depth h) h.d (mapping c) s
   unfolding mapped_by mapped
   mapped_is s =
       let n = c.n in
@@ -111,27 +90,23 @@ module _ (h : Header) (c : Component) (rows : List (List ℤ)) (frame : frame_ma
       let q = get_or c.pieces p no_piece in
       let g = pieces_facts c pieces p k in
       let e : (i : ℕ) → i < pivot_places → at pivots i ≡ pv i = at_table pivot_places pv in
-      ap (λ (p : ℕ). cut h.d (poly_sum (bl_depth h) (clamped (at pivots 0) (at pivots (n + 1)) s) (coef (row_of rows p)) 2))
+      ap (λ (p : ℕ). cut h.d (poly_sum (bl_depth h) (clamped (at pivots 0) (at pivots (n + 1)) s) (coef (row_of polynomials p)) 2))
       (idx_cong (at pivots) pv n s (λ i b. e i (omega arith)))
-      ∙ ap₂ (λ (a b : ℕ). cut h.d (poly_sum (bl_depth h) (clamped a b s) (coef (row_of rows p)) 2)) (e 0 (omega arith)) (e (n + 1) (omega arith))
-      ∙ by_kept (bl_depth h) h.d (clamped (pv 0) (pv (n + 1)) s) q.row (copied.row p (omega arith))
+      ∙ ap₂ (λ (a b : ℕ). cut h.d (poly_sum (bl_depth h) (clamped a b s) (coef (row_of polynomials p)) 2)) (e 0 (omega arith)) (e (n + 1) (omega arith))
+      ∙ by_kept (bl_depth h) h.d (clamped (pv 0) (pv (n + 1)) s) q.row (row_is p (omega arith))
       ∙ by_three_terms (bl_depth h) h.d _ (clamped (pv 0) (pv (n + 1)) s) (coef q.row) g.order (λ o. zero_abs _ (g.unused o))
 
-  pub table_is : {entries : List ℕ} → entries ≡ table_by (bl_depth h) h.d c.n c.preds rows → with_table entries true ≡ answer h c
+  pub table_is : {entries : List ℕ} → entries ≡ table_by (bl_depth h) h.d c.n c.preds polynomials → Some entries ≡ answer h c
   unfolding mapped_table
-  table_is e = ap₂ with_table (e ∙ same_codes 1024 (2 ^ bl_depth h) _ _ (rw (frame, pieces)) mapped_is) (sym (rw (frame, pieces) refl))
+  table_is e = ap Some (e ∙ same_codes 1024 (2 ^ bl_depth h) _ _ {u = can_map h c} (rw (frame, pieces)) mapped_is) ∙ sym (rw (frame, pieces) refl)
 
--- where it cannot be mapped the table has zeros
+-- where it cannot be mapped
 module _ (h : Header) (c : Component) where
-  no_table : can_map h c ≡ false → not_mapped ≡ answer h c
-  unfolding mapped_table
-  no_table e = ap₂ with_table (no_codes 1024 _ _ e) (sym e)
+  pub no_frame : frame_maps h c.n c.preds ≡ false → None ≡ answer h c
+  no_frame e = rw e refl
 
-  pub no_frame : frame_maps h c.n c.preds ≡ false → not_mapped ≡ answer h c
-  no_frame e = no_table (rw e refl)
-
-  pub no_pieces : pieces_map c ≡ false → not_mapped ≡ answer h c
-  no_pieces e = no_table (neither (frame_maps h c.n c.preds) e)
+  pub no_pieces : pieces_map c ≡ false → None ≡ answer h c
+  no_pieces e = rw (neither (frame_maps h c.n c.preds) e)
     where
       neither : (a : Bool) {b : Bool} → b ≡ false → (a && b) ≡ false
       neither true e = e

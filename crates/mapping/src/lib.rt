@@ -7,48 +7,27 @@ mod polynomial; // the polynomial of a piece
 mod table; // the table, by the rows of the pieces
 
 ghost use Rattle.std.specs.Prelude.{◌≡◌};
-ghost use Rattle.mapping.specs.inner.Mapped.{not_mapped, answer};
+ghost use Rattle.mapping.specs.inner.Mapped.{answer};
 
-use copies::{orders_of, rows_of};
+use copies::polynomials_of;
 use limits::{frame_maps, pieces_map};
 use plan::{Component, Header};
 use table::table_by;
 
-// The mapped sample of each code, and whether there is one: a component with an MMR piece, or one that cannot be computed
-// with, has none, and then the table has zeros.
-#[derive(Clone, Copy)]
-pub struct Mapped {
-    pub table: [u16; 1024],
-    pub maps: bool,
-}
-
-fn none() -> Mapped
-    ensures { result ≡ not_mapped }
-{
-    let zeros = [0u16; 1024];
-    Mapped {
-        table: zeros,
-        maps: false,
-    }
-}
-
-// Of a piece its method, its order and the coefficients of a polynomial are copied, and nothing else of it is read.
-pub fn mapped_table(h: Header, c: Component) -> Mapped
+// The mapped sample of each code, where there is one: a component with an MMR piece, or one that cannot be computed with,
+// has none. Of a piece its method, its order and the coefficients of a polynomial are copied, and nothing else of it is
+// read.
+pub fn mapped_table(h: Header, c: Component) -> Option<[u16; 1024]>
     ensures { result ≡ answer h c }
 {
-    let preds = c.preds;
-    if !frame_maps(h, c.n, preds) {
-        return none();
+    if !frame_maps(h, c.n, &c.preds) {
+        return None;
     }
-    let n = c.n as usize;
-    let orders = orders_of(c);
-    let rows = rows_of(c);
-    if !pieces_map(&orders, &rows, n) {
-        return none();
+    let n = usize::from(c.n);
+    let polynomials = polynomials_of(&c.pieces);
+    if !pieces_map(&polynomials[..n + 2]) {
+        return None;
     }
-    let table = table_by((h.bl as u32) + 8, h.d, n, preds, rows);
-    Mapped {
-        table: table,
-        maps: true,
-    }
+    let table = table_by(u32::from(h.bl) + 8, h.d, n, c.preds, &polynomials);
+    Some(table)
 }

@@ -1,7 +1,8 @@
 // The polynomial of a piece at a clamped sample (5.4.2.3.2).
 ghost use Rattle.std.specs.Prelude.{◌≡◌, ◌*◌, ◌≤◌, ◌^◌, pos};
 ghost use Rattle.standard.specs.Mapping.{poly_sum, cut};
-ghost use Rattle.mapping.specs.inner.Steps.{coef, growth, bend, RowRanges};
+ghost use Rattle.mapping.specs.inner.Copies.{coef};
+ghost use Rattle.mapping.specs.inner.Steps.{growth, bend, RowRanges};
 
 use steps::cut_at;
 
@@ -14,7 +15,7 @@ fn shifted(x: u64, shift: u32) -> i64
 }
 
 // The sum over the three coefficients of a row; one that the piece's order does not use is 0 and adds nothing.
-fn sum_of(depth: u32, s: u16, row: [i64; 4]) -> i64
+fn sum_of(depth: u32, s: u16, row: [i64; 3]) -> i64
     requires { RowRanges depth s row }
     ensures { result ≡ poly_sum depth s (coef row) 2 }
 {
@@ -32,7 +33,7 @@ pub(crate) struct Course {
     pub bend: i64,
 }
 
-pub(crate) fn course_from(depth: u32, s: u16, row: [i64; 4]) -> Course
+pub(crate) fn course_from(depth: u32, s: u16, row: [i64; 3]) -> Course
     requires { RowRanges depth s row }
     ensures { (result.value ≡ poly_sum depth s (coef row) 2) × (result.growth ≡ growth depth row s) × (result.bend ≡ bend depth row) }
 {
@@ -47,7 +48,7 @@ pub(crate) fn course_from(depth: u32, s: u16, row: [i64; 4]) -> Course
 }
 
 // The mapping step: a clamped sample, and the row of its piece by value.
-pub(crate) fn map_step(depth: u32, d: u8, s: u16, row: [i64; 4]) -> u16
+pub(crate) fn map_step(depth: u32, d: u8, s: u16, row: [i64; 3]) -> u16
     requires d_bound { d ≤ 32 }
     requires row_ranges { RowRanges depth s row }
     ensures { result ≡ cut d (poly_sum depth s (coef row) 2) }

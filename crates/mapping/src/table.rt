@@ -3,6 +3,7 @@ ghost use Rattle.std.specs.Prelude.{◌≡◌, ◌≤◌, length};
 ghost use Rattle.runs.specs.Runs.{painted, between};
 ghost use Rattle.mapping.specs.inner.Steps.{ByRows, StretchGiven, by_row, table_by};
 
+use crate::copies::Polynomial;
 use crate::polynomial::{course_from, map_step};
 use plan::limits::{PIECES, PIVOTS};
 use steps::{clamp, cut_at, pivots_of};
@@ -12,16 +13,12 @@ fn hold(table: &mut [u16; 1024], from: u16, to: u16, value: u16)
     requires { (from ≤ to) × (to ≤ 1024) × (length table.old ≡ 1024) }
     ensures { table.new ≡ painted (between from to) (λ j. value) table.old }
 {
-    let mut s = from;
-    while s < to {
-        table[s as usize] = value;
-        s += 1;
-    }
+    table[from as usize..to as usize].fill(value);
 }
 
 // The codes of one piece, of which none is clamped. The polynomial goes on from code to code by its differences: there is no
 // product in the loop, and no branch.
-fn go_on(table: &mut [u16; 1024], from: u16, to: u16, depth: u32, d: u8, row: [i64; 4])
+fn go_on(table: &mut [u16; 1024], from: u16, to: u16, depth: u32, d: u8, row: [i64; 3])
     requires { StretchGiven depth d from to row × (length table.old ≡ 1024) }
     ensures { table.new ≡ painted (between from to) (by_row depth d row) table.old }
 {
@@ -29,12 +26,10 @@ fn go_on(table: &mut [u16; 1024], from: u16, to: u16, depth: u32, d: u8, row: [i
     let bend = course.bend;
     let mut value = course.value;
     let mut growth = course.growth;
-    let mut s = from;
-    while s < to {
+    for s in from..to {
         table[s as usize] = cut_at(d, value);
         value += growth;
         growth += bend;
-        s += 1;
     }
 }
 
@@ -46,28 +41,28 @@ pub(crate) fn table_by(
     d: u8,
     n: usize,
     preds: [u16; PIVOTS],
-    rows: [[i64; 4]; PIECES],
+    polynomials: &[Polynomial; PIECES],
 ) -> [u16; 1024]
-    requires { ByRows depth d n preds rows }
-    ensures { result ≡ table_by depth d n preds rows }
+    requires { ByRows depth d n preds polynomials.now }
+    ensures { result ≡ table_by depth d n preds polynomials.now }
 {
     let pivots = pivots_of(preds);
     let codes = (1u64 << depth) as u16;
     let mut table = [0u16; 1024];
     let mut s = pivots[0];
-    let lowest = rows[0];
-    hold(&mut table, 0, s, map_step(depth, d, s, lowest));
-    let mut p: usize = 0;
-    while p <= n {
+    hold(&mut table, 0, s, map_step(depth, d, s, polynomials[0].row));
+    for p in 0..n + 1 {
         let end = clamp(0, codes, pivots[p + 1]);
-        let row = rows[p];
-        go_on(&mut table, s, end, depth, d, row);
+        go_on(&mut table, s, end, depth, d, polynomials[p].row);
         s = end;
-        p += 1;
     }
     if s < codes {
-        let highest = rows[n + 1];
-        hold(&mut table, s, codes, map_step(depth, d, s, highest));
+        hold(
+            &mut table,
+            s,
+            codes,
+            map_step(depth, d, s, polynomials[n + 1].row),
+        );
     }
     table
 }

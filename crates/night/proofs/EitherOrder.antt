@@ -10,7 +10,7 @@ use Rattle.rules.specs.Rules.{extent, names}
 use Rattle.marks.specs.Marks.{full, full_at}
 use Rattle.compose.specs.Composing.{composes}
 use Rattle.jobs.specs.Jobs.{Job, accepted, sample, is_full}
-use Rattle.jobs.proofs.Samples.{sample_by, mark_by, every-sample}
+use Rattle.jobs.proofs.Samples.{sample_by, mark_by, every_sample_holds}
 use Rattle.jobs.proofs.Accepting.{named-marked}
 use Rattle.calls.specs.Calls.{Memory}
 use Rattle.night.specs.Sequence.{step, run}
@@ -38,9 +38,9 @@ either_order whole base m g k n n' = (
   },
   record {
     samples = λ i l e.
-        every-sample.kept_samples base then_whole.output then_whole.marks i (omega (arith, output_long whole m)) g.is_base (ap (full_at then_whole.marks) (there i ∙ e) ∙ is_marked)
+        every_sample_holds.kept_samples base then_whole.output then_whole.marks i (omega (arith, output_long whole m)) g.is_base (ap (full_at then_whole.marks) (there i ∙ e) ∙ is_marked)
         ∙ sample-full whole m g.whole_accepted g.is_whole i l (ap (names whole.work) e ∙ n);
-    mark = λ l. every-sample.kept_marks base then_whole.output then_whole.marks k (omega (arith, marks_long whole m)) g.is_base is_marked ∙ mark_full whole m g.whole_accepted g.is_whole k l n;
+    mark = λ l. every_sample_holds.kept_marks base then_whole.output then_whole.marks k (omega (arith, marks_long whole m)) g.is_base is_marked ∙ mark_full whole m g.whole_accepted g.is_whole k l n;
   },
 )
   where

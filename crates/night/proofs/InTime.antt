@@ -17,7 +17,7 @@ use Rattle.jobs.proofs.Samples.{unused_sample}
 use Rattle.night.specs.Sequence.{some_accepted, named, brings, enhanced, full_after, base_only_after}
 use Rattle.night.specs.Night.{Asked, All, none, more, StandbyNight}
 use Rattle.night.specs.InTime.{KeepsAll, AskedInTime, NightInTime}
-use Rattle.night.proofs.Night.{asked_as}
+use Rattle.night.proofs.Night.{asked_as, standby_night}
 
 module _ (p : Plan) (base enhancement : List ℕ) (a b : ℕ) where
   -- the premises are those of before
@@ -82,3 +82,6 @@ in_time night p base enhancement output marks js fits asked =
       next = λ j k h. let o = now.next j (asked_now p base enhancement a b j k) h in record { is_done = o.is_done; rows = o.rows; all = o.all };
       sent_again = now.sent_again;
     }
+
+pub night_in_time : NightInTime
+night_in_time = in_time standby_night

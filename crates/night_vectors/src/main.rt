@@ -2,8 +2,9 @@
 // again, and what is left in the memory is printed. Both runs that are lent lie between guards, which nobody may touch.
 #![tactic(auto)]
 
-use jobs::{Answer, Opened, compose_job, open_picture};
+use jobs::{Answer, compose_job, open_picture};
 use plan::Plan;
+use refusals::Refusal;
 use streams::guards::{GUARD, marks_kept, next_marks, samples_kept, say_touched};
 use streams::nights::{
     next_choice, next_runs, next_ticket, print_done, print_marks, print_open, run_of,
@@ -17,10 +18,10 @@ fn say_answer(answer: Answer) {
     }
 }
 
-fn say_opened(opened: Opened) {
+fn say_opened(opened: Result<u32, Refusal>) {
     match opened {
-        Opened::Open(ticket) => print_open(ticket),
-        Opened::Refused(number) => print_refusal(number),
+        Ok(ticket) => print_open(ticket),
+        Err(refusal) => print_refusal(refusal.number()),
     }
 }
 

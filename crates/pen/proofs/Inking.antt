@@ -1,5 +1,5 @@
 -- Bytes that are put one after the other, once or in a loop. Assumes nothing.
-use mathlib.Core.Path.{◌≡◌, refl, sym, ap, subst, ◌∙◌}
+use mathlib.Core.Path.{◌≡◌, refl, sym, ap, ap₂, subst, ◌∙◌}
 use mathlib.Core.Bool.{Bool}
 use mathlib.Core.List.{List, [], ◌++◌}
 use mathlib.Core.Logic.{⊎_elim}
@@ -86,6 +86,12 @@ module _ (bytes : ℕ → List ℕ) where
   unfolding in_turn
   turns_alike others e zero = refl
   turns_alike others e (suc k) = length-append (in_turn k bytes) (bytes k) ∙ rw (e k, turns_alike others e k) (sym (length-append (in_turn k others) (others k)))
+
+  -- where each is another's
+  pub turns_same : (others : ℕ → List ℕ) (k : ℕ) → ((i : ℕ) → i < k → bytes i ≡ others i) → in_turn k bytes ≡ in_turn k others
+  unfolding in_turn
+  turns_same others zero e = refl
+  turns_same others (suc k) e = ap₂ (λ (a b : List ℕ). a ++ b) (turns_same others k (λ i h. e i (omega arith))) (e k (omega arith))
 
   -- where each has a to b bytes
   pub turns_between : (a b k : ℕ) → ((i : ℕ) → i < k → (a ≤ length (bytes i)) × (length (bytes i) ≤ b)) → (k * a ≤ length (in_turn k bytes)) × (length (in_turn k bytes) ≤ k * b)

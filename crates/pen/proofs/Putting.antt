@@ -2,13 +2,16 @@
 use mathlib.Core.Path.{◌≡◌, refl, sym, ap, ◌∙◌}
 use mathlib.Core.Bool.{Bool}
 use mathlib.Core.List.{List, [], ◌∷◌, ◌++◌}
-use Prim.Native.Nat.{ℕ, zero, suc, ◌+◌, ◌/◌, ◌%◌, ◌^◌, ◌≤◌, ◌<◌}
+use Prim.Native.Nat.{ℕ, zero, suc, ◌+◌, ◌-◌, ◌/◌, ◌%◌, ◌^◌, ◌≤◌, ◌<◌}
 use native.Mathlib.Nat.{add-zero}
 use native.Mathlib.Omega.{arith}
-use lib.ListN.{length, set, length-append}
-use lib.Seq.{sets, length-sets}
+use lib.ListN.{length, set, take, drop, length-append}
+use lib.Seq.{sets, sets-eq, length-sets, take-length}
 use lib.IntN.{ℤ}
 use borrow.Author.Tests.{lt-leb, le-leb}
+use borrow.Rule.Slice.PartMut.{put_mid}
+use Rattle.std.specs.Int.{w16, w32, to_be_bytes}
+use Rattle.std.proofs.lemmas.Slice.{put_mid-paste}
 use Rattle.pen.specs.Bytes.{bytes_of, signed_number, integer_part, fraction_part, number_bytes}
 use Rattle.pen.specs.inner.Putting.{put_at, integer_bytes, put_number}
 
@@ -29,17 +32,24 @@ number-length w d z =
 last : (v : ℕ) → v / 1 ≡ v
 last v = omega arith
 
-pub one_byte : (v : ℕ) → bytes_of 1 v ≡ v ∷ []
+pub one_byte : (v : ℕ) → v ∷ [] ≡ bytes_of 1 v
 unfolding bytes_of
 one_byte v = rw (last v)
 
-pub two_bytes : (v : ℕ) → bytes_of 2 v ≡ v / 256 ∷ v % 256 ∷ []
+pub two_bytes : (v : ℕ) → v < 2 ^ 16 → to_be_bytes w16 v ≡ bytes_of 2 v
 unfolding bytes_of
-two_bytes v = rw (last (v % 256))
+two_bytes v h =
+    let high : v / 256 % 256 ≡ v / 256 = omega arith in
+    rw (last (v % 256), high)
 
-pub four_bytes : (v : ℕ) → let low = v % 16777216 in let lower = low % 65536 in bytes_of 4 v ≡ v / 16777216 ∷ low / 65536 ∷ lower / 256 ∷ lower % 256 ∷ []
+pub four_bytes : (v : ℕ) → v < 2 ^ 32 → to_be_bytes w32 v ≡ bytes_of 4 v
 unfolding bytes_of
-four_bytes v = rw (last (v % 16777216 % 65536 % 256))
+four_bytes v h =
+    let a : v / 16777216 % 256 ≡ v / 16777216 = omega arith in
+    let b : v / 65536 % 256 ≡ v % 16777216 / 65536 = omega arith in
+    let c : v / 256 % 256 ≡ v % 16777216 % 65536 / 256 = omega arith in
+    let d : v % 256 ≡ v % 16777216 % 65536 % 256 = omega arith in
+    rw (last (v % 16777216 % 65536 % 256), a, b, c, d)
 
 module _ (s : List ℕ) (at : ℕ) {l bytes : List ℕ} (e : bytes ≡ l) where
   -- they do not fit
@@ -52,22 +62,14 @@ module _ (s : List ℕ) (at : ℕ) {l bytes : List ℕ} (e : bytes ≡ l) where
   unfolding put_at
   put_all h = rw (e, le-leb (at + length l) (length s) h)
 
--- one store after the other
-module _ (s : List ℕ) (at v : ℕ) where
-  pub put_two : at + 2 ≤ length s → set (set s at (v / 256)) (at + 1) (v % 256) ≡ put_at s at (bytes_of 2 v)
-  put_two h =
-      let e : at + 1 ≡ suc at = omega arith in
-      rw e (put_all s at (two_bytes v) h)
-
-  pub put_four : at + 4 ≤ length s
-      → let low = v % 16777216 in
-      let lower = low % 65536 in
-      set (set (set (set s at (v / 16777216)) (at + 1) (low / 65536)) (at + 2) (lower / 256)) (at + 3) (lower % 256) ≡ put_at s at (bytes_of 4 v)
-  put_four h =
-      let e1 : at + 1 ≡ suc at = omega arith in
-      let e2 : at + 2 ≡ suc (suc at) = omega arith in
-      let e3 : at + 3 ≡ suc (suc (suc at)) = omega arith in
-      rw (e1, e2, e3) (put_all s at (four_bytes v) h)
+-- a part of the slice was written
+pub put_part : (s l : List ℕ) (at n : ℕ) → length l ≡ n → at + n ≤ length s → put_mid at (at + n - at) s l ≡ put_at s at l
+put_part s l at n e h =
+    let m : at + length l ≤ length s = omega arith in
+    put_mid-paste at (at + n - at) s l l (length l) refl (omega arith) refl
+    ∙ ap (λ (b : List ℕ). take at s ++ b ++ drop (at + length l) s) (take-length l)
+    ∙ sym (sets-eq l s at m)
+    ∙ put_all s at refl m
 
 -- bytes that follow each other
 pub sets_on : (a b s : List ℕ) (at : ℕ) → sets (sets s at a) (at + length a) b ≡ sets s at (a ++ b)
@@ -92,12 +94,12 @@ module _ (s : List ℕ) (at : ℕ) (long : Bool) (d : ℕ) (z : ℤ) where
     pub number_none : {w : ℕ} → w ≡ integer_bytes long → length s < at + (w + 4) → s ≡ put_number s at long d z
     number_none e k = rw (le-leb d 32 h) (put_none s at refl (rw (number-length (integer_bytes long) d z, ← e) k))
 
-    pub number_put : {w x y : ℕ} → w ≡ integer_bytes long → at + (w + 4) ≤ length s → x ≡ signed_number (integer_bytes long) (integer_part d z) → y ≡ fraction_part d z
-        → put_at (put_at s at (bytes_of (integer_bytes long) x)) (at + w) (bytes_of 4 y) ≡ put_number s at long d z
+    pub number_put : {w x y : ℕ} {bytes : List ℕ} → w ≡ integer_bytes long → at + (w + 4) ≤ length s → x ≡ signed_number (integer_bytes long) (integer_part d z) → y ≡ fraction_part d z → bytes ≡ bytes_of 4 y
+        → put_at (put_at s at (bytes_of (integer_bytes long) x)) (at + w) bytes ≡ put_number s at long d z
     unfolding number_bytes
-    number_put {w} {x} {y} e k f g =
+    number_put {w} {x} {y} e k f g i =
         let l = bytes_length (integer_bytes long) x in
         let m = bytes_length 4 y in
-        rw (le-leb d 32 h, ← f, ← g, e)
+        rw (le-leb d 32 h, ← f, ← g, e, i)
         (ap (λ (n : ℕ). put_at (put_at s at (bytes_of (integer_bytes long) x)) (at + n) (bytes_of 4 y)) (sym l)
         ∙ put_on s at (bytes_of (integer_bytes long) x) (bytes_of 4 y) (omega (arith, l, m, e, k)))

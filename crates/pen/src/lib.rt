@@ -4,46 +4,16 @@
 mod fixed; // numbers with a fraction
 
 ghost use Rattle.std.specs.Prelude.{◌≡◌};
-ghost use Rattle.pen.specs.Bytes.{bytes_of};
 ghost use Rattle.pen.specs.inner.Putting.{put_at};
 
-pub use fixed::{integer_bytes, signed, unsigned};
+pub use fixed::{Distance, integer_bytes, number};
 
-pub fn one(out: &mut [u8], at: usize, v: u8)
-    ensures { out.new ≡ put_at out.old at (bytes_of 1 v) }
+// Puts bytes from `at` on.
+pub fn put<const N: usize>(out: &mut [u8], at: usize, bytes: [u8; N])
+    ensures { out.new ≡ put_at out.old at bytes.entry }
 {
-    if out.len() <= at {
+    if out.len() < N || out.len() - N < at {
         return;
     }
-    out[at] = v;
-}
-
-pub fn two(out: &mut [u8], at: usize, v: u16)
-    ensures { out.new ≡ put_at out.old at (bytes_of 2 v) }
-{
-    if out.len() < 2 {
-        return;
-    }
-    if out.len() - 2 < at {
-        return;
-    }
-    out[at] = (v / 256) as u8;
-    out[at + 1] = (v % 256) as u8;
-}
-
-pub fn four(out: &mut [u8], at: usize, v: u32)
-    ensures { out.new ≡ put_at out.old at (bytes_of 4 v) }
-{
-    if out.len() < 4 {
-        return;
-    }
-    if out.len() - 4 < at {
-        return;
-    }
-    let low = v % 16777216;
-    let lower = low % 65536;
-    out[at] = (v / 16777216) as u8;
-    out[at + 1] = (low / 65536) as u8;
-    out[at + 2] = (lower / 256) as u8;
-    out[at + 3] = (lower % 256) as u8;
+    out[at..at + N].copy_from_slice(&bytes);
 }

@@ -8,3 +8,4 @@ pub mod Sizes
 pub mod Facts
 pub mod Carrying
 pub mod Polynomials
+pub mod Zeros

@@ -17,7 +17,7 @@ use Rattle.plan.specs.contracts.Piece as piece
 use Rattle.plan.specs.contracts.Component as component
 use Rattle.plan.specs.contracts.Plan as plan
 
-rows : (l : List Piece) (us : List Val) → shadow (each _ (piece.the_row).own_val l us) → (p : ℕ) → p < length l → length (get_or l p no_piece).row ≡ row_places
+pub rows : (l : List Piece) (us : List Val) → shadow (each _ (piece.the_row).own_val l us) → (p : ℕ) → p < length l → length (get_or l p no_piece).row ≡ row_places
 rows [] us s p h = absurd (not-suc-le-zero h)
 rows (q ∷ l) [] s p h = absurd s
 rows (q ∷ l) (u ∷ us) s zero h = s.0.1.1.1.1.0.1.0.1

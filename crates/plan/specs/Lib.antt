@@ -1,3 +1,4 @@
+pub mod Methods
 pub mod Ranges
 pub mod Rule7
 pub mod Tables

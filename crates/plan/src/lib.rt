@@ -7,13 +7,14 @@ pub mod ranges; // the ranges of the header's fields
 pub mod versions; // the versions of a block, and how many pieces each carries
 
 ghost use Rattle.std.specs.Prelude.{false, ◌≡◌};
-ghost use Rattle.plan.specs.Rule7.{fitting, no_component, no_plan};
+ghost use Rattle.plan.specs.Rule7.{fitting, no_plan};
 
 use limits::{PIECES, PIVOTS, ROW};
 
-// The header's fields (5.3.2), as the block carries them. W is twice `columns`, and H twice `pairs`.
+// The header's fields (5.3.2), as the block carries them. W is twice `columns`, and H twice `pairs`. C builds plans and hands
+// them over, so the fields of these structs, their order and their layout are the C interface.
 #[repr(C)]
-#[derive(Clone, Copy)]
+#[derive(Clone, Copy, Default, PartialEq, Eq)]
 pub struct Header {
     pub profile: u8, // ccm_profile
     pub level: u8, // ccm_level
@@ -31,7 +32,7 @@ pub struct Header {
 // One piece of a component's mapping (5.3.3): mapping_idc, its order less 1, and its row of coefficients. A polynomial's are
 // fp_poly_coef; of MMR place 0 is fp_mmr_constant, and place 7 (i - 1) + j + 1 is fp_mmr_coef[i][j].
 #[repr(C)]
-#[derive(Clone, Copy)]
+#[derive(Clone, Copy, Default, PartialEq, Eq)]
 pub struct Piece {
     pub idc: u8,
     pub order: u8,
@@ -41,7 +42,7 @@ pub struct Piece {
 // How a component's residual is inverse quantized (5.3.4): nlq_offset, fp_hdr_in_max,
 // fp_linear_deadzone_slope and fp_linear_deadzone_threshold.
 #[repr(C)]
-#[derive(Clone, Copy)]
+#[derive(Clone, Copy, Default, PartialEq, Eq)]
 pub struct Nlq {
     pub offset: u16,
     pub maximum: u64,
@@ -52,7 +53,7 @@ pub struct Nlq {
 // One component: num_pivots_minus2, n + 2 of pred_pivot_value, n + 2 pieces and the residual's numbers.
 // Places beyond the last pivot, the last piece or a piece's order are 0.
 #[repr(C)]
-#[derive(Clone, Copy)]
+#[derive(Clone, Copy, Default, PartialEq, Eq)]
 pub struct Component {
     pub n: u8,
     pub preds: [u16; PIVOTS],
@@ -61,7 +62,7 @@ pub struct Component {
 }
 
 #[repr(C)]
-#[derive(Clone, Copy)]
+#[derive(Clone, Copy, Default, PartialEq, Eq)]
 pub struct Plan {
     pub header: Header,
     pub y: Component,
@@ -69,50 +70,10 @@ pub struct Plan {
     pub cr: Component,
 }
 
-fn zero_component() -> Component
-    ensures { result ≡ no_component }
-{
-    let piece = Piece {
-        idc: 0,
-        order: 0,
-        row: [0i64; ROW],
-    };
-    let nlq = Nlq {
-        offset: 0,
-        maximum: 0,
-        slope: 0,
-        threshold: 0,
-    };
-    Component {
-        n: 0,
-        preds: [0u16; PIVOTS],
-        pieces: [piece; PIECES],
-        nlq: nlq,
-    }
-}
-
 // The plan of zeros, which stands for none. Rule 7 refuses it: its profile is not listed.
+#[tactic(auto, using(crate::proofs::Zeros::is_empty, crate::proofs::Facts::no_plan_refused))]
 pub fn empty() -> Plan
     ensures { (result ≡ no_plan) × (fitting result ≡ false) }
 {
-    let header = Header {
-        profile: 0,
-        level: 0,
-        d: 0,
-        bl: 0,
-        el: 0,
-        hdr: 0,
-        disabled: 0,
-        columns: 0,
-        pairs: 0,
-        brightest: 0,
-        darkest: 0,
-    };
-    let zeros = zero_component();
-    Plan {
-        header: header,
-        y: zeros,
-        cb: zeros,
-        cr: zeros,
-    }
+    Plan::default()
 }

@@ -1,9 +1,30 @@
 // What goes by mapping_idc: 0 is the polynomial (5.3.3.2), 1 is MMR (5.3.3.3).
 ghost use Rattle.std.specs.Prelude.{◌≡◌, cond, ◌≤◌, eqb};
+ghost use Rattle.plan.specs.Methods.{method};
 ghost use Rattle.plan.specs.Ranges.{integer_limit};
 ghost use Rattle.plan.specs.Rule7.{coefficients_used};
 
+// A block and a plan carry the number.
 pub const MMR: u8 = 1;
+
+#[derive(Clone, Copy, PartialEq, Eq)]
+pub enum Method {
+    Polynomial,
+    Mmr,
+}
+
+impl Method {
+    // None where the standard has no such method.
+    pub fn of(idc: u8) -> Option<Method>
+        ensures { result ≡ method idc }
+    {
+        match idc {
+            0 => Some(Method::Polynomial),
+            MMR => Some(Method::Mmr),
+            _ => None,
+        }
+    }
+}
 
 // The greatest mapping_idc of component k: luma has no MMR.
 pub fn most_idc(k: usize) -> u8
@@ -16,7 +37,10 @@ pub fn most_idc(k: usize) -> u8
 pub fn most_order(idc: u8) -> u8
     ensures { result ≡ cond (eqb idc 1) 2 1 }
 {
-    if idc == MMR { 2 } else { 1 }
+    match Method::of(idc) {
+        Some(Method::Mmr) => 2,
+        _ => 1,
+    }
 }
 
 // How many coefficients a piece of an order has: the polynomial's, or the constant and 7 for each order.
@@ -24,10 +48,9 @@ pub fn coefficients_used(idc: u8, order: u8) -> usize
     ensures is { result ≡ coefficients_used idc order }
     ensures few { result ≤ 1793 }
 {
-    if idc == MMR {
-        7 * ((order as usize) + 1) + 1
-    } else {
-        (order as usize) + 2
+    match Method::of(idc) {
+        Some(Method::Mmr) => 7 * (usize::from(order) + 1) + 1,
+        _ => usize::from(order) + 2,
     }
 }
 
@@ -35,5 +58,8 @@ pub fn coefficients_used(idc: u8, order: u8) -> usize
 pub fn integer_limit(idc: u8) -> u64
     ensures { (result ≡ integer_limit idc) × (result ≤ 65536) }
 {
-    if idc == MMR { 65536 } else { 64 }
+    match Method::of(idc) {
+        Some(Method::Mmr) => 65536,
+        _ => 64,
+    }
 }

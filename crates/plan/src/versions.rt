@@ -20,9 +20,9 @@ pub fn pieces_carried(version: u16, n: u8) -> usize
     ensures most { result ≤ n + 2 }
 {
     if version == 1 {
-        (n as usize) + 1
+        usize::from(n) + 1
     } else {
-        (n as usize) + 2
+        usize::from(n) + 2
     }
 }
 
@@ -38,7 +38,7 @@ pub fn copy_last(version: u16, n: u8, carried: [Piece; PIECES]) -> [Piece; PIECE
     if MOST_N < n {
         return pieces;
     }
-    let p = n as usize;
+    let p = usize::from(n);
     let last = pieces[p];
     pieces[p + 1] = last;
     pieces

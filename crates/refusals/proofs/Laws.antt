@@ -95,6 +95,22 @@ of_number-number_of Method = refl
 pub number_of-injective : (r s : Refusal) → number_of r ≡ number_of s → r ≡ s
 number_of-injective r s e = sym (of_number-number_of r) ∙ ap of_number e ∙ of_number-number_of s
 
+-- every rule has a number above 0
+pub number_of-some : (r : Refusal) → number_of r ≡ 0 → ⊥
+number_of-some Short e = omega arith
+number_of-some Trailer e = omega arith
+number_of-some Length e = omega arith
+number_of-some Header e = omega arith
+number_of-some Field e = omega arith
+number_of-some Reserved e = omega arith
+number_of-some Plan e = omega arith
+number_of-some Ticket e = omega arith
+number_of-some Run e = omega arith
+number_of-some Rows e = omega arith
+number_of-some Sample e = omega arith
+number_of-some Room e = omega arith
+number_of-some Method e = omega arith
+
 -- answers whose values tell what they hold are told by what they say
 pub says-injective : {A : Type 0} (values : A → List ℕ) → ((a b : A) → values a ≡ values b → a ≡ b) → (x y : Result A Refusal) → says values x ≡ says values y → x ≡ y
 says-injective values tell (Ok a) (Ok b) e = ap Ok (tell a b (ap (λ (o : Outcome). o.values) e))

@@ -1,6 +1,6 @@
 // The residuals of the codes on one side of the offset. Before they are limited they grow evenly from code to code, so that the
 // loop has no product.
-ghost use Rattle.std.specs.Prelude.{◌≡◌, ◌≤◌, ◌/◌, ◌^◌, min, max, pos, nat_abs, ◌+ℤ◌, length};
+ghost use Rattle.std.specs.Prelude.{◌≡◌, ◌≤◌, ◌/◌, ◌^◌, pos, nat_abs, ◌+ℤ◌, length};
 ghost use Rattle.runs.specs.Runs.{painted, between};
 ghost use Rattle.standard.specs.Mapping.{from_zero};
 ghost use Rattle.standard.specs.Residual.{limit};
@@ -36,20 +36,6 @@ fn lifted(shift: u32, far: u64, dq: i64) -> u32
     (x >> shift) as u32
 }
 
-// A number, but not above `high`, and then not below `low`.
-fn held(low: u32, high: u32, v: u32) -> u32
-    ensures { result ≡ max (min v high) low }
-{
-    let mut t = v;
-    if high < t {
-        t = high;
-    }
-    if t < low {
-        t = low;
-    }
-    t
-}
-
 // What a scaled distance comes to: limited, divided and raised. The code raises it first, by what the division makes 2^29, and
 // limits it last: no step has a sign, and the limits are of 32 bits, so that the compiler makes several at once. At the end all
 // but 2^17 and the rounding term is taken off again.
@@ -60,8 +46,8 @@ fn raised_by(out: u32, shift: u32, most: u64, dq: i64) -> u32
     let far = power(29 + shift);
     let high = (far + most) >> shift;
     let low = (far - most) >> shift;
-    held(low as u32, high as u32, lifted(shift, far, dq))
-        - (536870912 - 131072 - (power(15 - out) as u32))
+    let held = lifted(shift, far, dq).min(high as u32).max(low as u32);
+    held - (536870912 - 131072 - (power(15 - out) as u32))
 }
 
 // The codes from `from` up to, but not including, `to`, on the side of the offset that `sign` says.
@@ -82,10 +68,8 @@ pub(crate) fn go_on(
     let most = most_of(el, q.maximum);
     let even = growth(el, q.slope);
     let mut dq = scale(el, q.slope, q.threshold, distance(from, q.offset), sign);
-    let mut e = from;
-    while e < to {
+    for e in from..to {
         table[e as usize] = raised_by(out, shift, most, dq);
         dq += even;
-        e += 1;
     }
 }

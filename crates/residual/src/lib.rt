@@ -15,11 +15,10 @@ ghost use Rattle.residual.specs.inner.Steps.{raised_code};
 ghost use Rattle.residual.specs.inner.Tables.{residual_table, residual_pair, no_residual, finished_table, cut_numbers};
 
 use growing::go_on;
-use plan::ranges::header_fits;
+use plan::ranges::FittingHeader;
 use plan::{Header, Nlq};
 use rounding::{finish, power, raise};
 use rule_seven::quantizes;
-use spans::least;
 use sums::Cut;
 
 // The raised residual of each code, in a table: of those below the offset, of that at it, and of those above it. Where they
@@ -49,7 +48,9 @@ pub fn residual_table(h: Header, q: Nlq) -> [u32; 1024]
     table
 }
 
-// The tables of two quantizations, for whoever composes two planes together.
+// The tables of two quantizations, for whoever composes two planes together. They are made in one call: a table that is
+// handed back to more callers is no longer put into the loop of a plane, which costs a job with an enhancement a
+// microsecond.
 #[derive(Clone, Copy)]
 pub struct Pair {
     pub first: [u32; 1024],
@@ -63,37 +64,30 @@ pub fn residual_pair(h: Header, a: Nlq, b: Nlq) -> Pair
     fill_residuals(&mut first, h, a);
     let mut second = [0u32; 1024];
     fill_residuals(&mut second, h, b);
-    Pair {
-        first: first,
-        second: second,
-    }
+    Pair { first, second }
 }
 
 // The raised residual of no residual, for every code: where samples are added up whose enhancement says nothing.
 pub fn no_residual(h: Header) -> [u32; 1024]
     ensures { result ≡ no_residual h }
 {
-    if !header_fits(h) {
-        return [0u32; 1024];
+    match FittingHeader::of(h) {
+        Some(h) => [raise(h.hdr_depth(), 0); 1024],
+        None => [0; 1024],
     }
-    let none = raise((h.hdr as u32) + 8, 0);
-    [none; 1024]
 }
 
 // The HDR sample of each mapped sample of a run, of at most 1,024, where there is no residual.
 pub fn finished_table(h: Header, mapped: &[u16]) -> [u16; 1024]
     ensures { result ≡ finished_table h mapped.now }
 {
-    if !header_fits(h) {
-        return [0u16; 1024];
-    }
-    let out = (h.hdr as u32) + 8;
-    let n = least(mapped.len(), 1024);
-    let mut table = [0u16; 1024];
-    let mut s = 0;
-    while s < n {
+    let Some(h) = FittingHeader::of(h) else {
+        return [0; 1024];
+    };
+    let out = h.hdr_depth();
+    let mut table = [0; 1024];
+    for s in 0..mapped.len().min(1024) {
         table[s] = finish(out, mapped[s]);
-        s += 1;
     }
     table
 }
@@ -102,14 +96,14 @@ pub fn finished_table(h: Header, mapped: &[u16]) -> [u16; 1024]
 pub fn cut_numbers(h: Header) -> Cut
     ensures { result ≡ cut_numbers h }
 {
-    if !header_fits(h) {
+    let Some(h) = FittingHeader::of(h) else {
         return Cut {
             shift: 0,
             low: 0,
             most: 0,
         };
-    }
-    let out = (h.hdr as u32) + 8;
+    };
+    let out = h.hdr_depth();
     let codes = power(out) as u16;
     Cut {
         shift: 12 - out,

@@ -18,17 +18,12 @@ pub(crate) fn raise(out: u32, r: i64) -> u32
     (r + (131072 + (power(15 - out) as i64))) as u32
 }
 
-// The HDR sample of a mapped sample without residual. It is cut before it is rounded, in 16 bits throughout, so that a loop
+// The HDR sample of a mapped sample without residual. The sum is cut at 16 bits, which it has throughout, so that a loop
 // finishes eight at once.
 pub(crate) fn finish(out: u32, v: u16) -> u16
     requires { (1 ≤ out) × (out ≤ 12) }
     ensures { result ≡ reconstructed out v (pos 0) }
 {
     let half = power(15 - out) as u16;
-    let room = 65535 - half;
-    let mut t = v;
-    if room < t {
-        t = room;
-    }
-    (t + half) >> (16 - out)
+    v.saturating_add(half) >> (16 - out)
 }

@@ -11,7 +11,7 @@ ghost use Rattle.plan.specs.Tables.{has_mmr};
 
 use places::{piece_empty, piece_fits, pivots_fit};
 use plan::limits::{MOST_N, PIECES};
-use plan::ranges::header_fits;
+use plan::ranges::FittingHeader;
 use plan::{Component, Header, Nlq, Plan};
 use ranges::nlq_fits;
 
@@ -23,34 +23,28 @@ pub fn is_usable(k: usize, h: Header, c: Component) -> bool
     ensures { result ≡ usable k h c }
 {
     // The other ranges are made of the header's numbers, which must be small enough to shift by.
-    if !header_fits(h) {
+    let Some(h) = FittingHeader::of(h) else {
         return false;
-    }
+    };
     if c.n > MOST_N {
         return false;
     }
-    let used = (c.n as usize) + 2;
-    let preds = c.preds;
-    let pivots = pivots_fit(h, used, preds);
-    let quantization = c.nlq;
-    let residual = nlq_fits(h, quantization);
+    let used = usize::from(c.n) + 2;
+    let pivots = pivots_fit(h, used, &c.preds);
+    let residual = nlq_fits(h, c.nlq);
     let mut fit = true;
-    let mut p: usize = 0;
-    while p < used {
-        let q = c.pieces[p];
-        fit = fit & piece_fits(k, h, q);
-        p += 1;
+    for p in 0..used {
+        fit &= piece_fits(k, h, &c.pieces[p]);
     }
-    while p < PIECES {
-        let q = c.pieces[p];
-        fit = fit & piece_empty(h, q);
-        p += 1;
+    for p in used..PIECES {
+        fit &= piece_empty(h, &c.pieces[p]);
     }
     pivots & (fit & residual)
 }
 
 // Rule 7: whether a plan that is handed in keeps every range and has 0 in every unused place. A component is named on its
 // way to its test: it is then handed on where it lies in the plan, and not copied.
+#[tactic(auto, using(crate::proofs::Whole::each))]
 pub fn passes(plan: Plan) -> bool
     ensures { result ≡ fitting plan }
 {
@@ -65,6 +59,7 @@ pub fn passes(plan: Plan) -> bool
 }
 
 // The same, and no piece is MMR: each component is one that luma could be.
+#[tactic(auto, using(plan::proofs::Polynomials::all_luma))]
 pub fn all_polynomials(plan: Plan) -> bool
     ensures { result ≡ (fitting plan && not (has_mmr plan)) }
 {
@@ -82,8 +77,8 @@ pub fn all_polynomials(plan: Plan) -> bool
 pub fn quantizes(h: Header, q: Nlq) -> bool
     ensures { result ≡ (header_fits h && nlq_fits h q) }
 {
-    if !header_fits(h) {
-        return false;
+    match FittingHeader::of(h) {
+        Some(h) => nlq_fits(h, q),
+        None => false,
     }
-    nlq_fits(h, q)
 }

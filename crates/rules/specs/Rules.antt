@@ -9,6 +9,7 @@ use Rattle.plan.specs.declared.Plan.{Plan}
 use Rattle.plan.specs.Ranges.{bl_depth, el_depth}
 use Rattle.plan.specs.Rule7.{fitting}
 use Rattle.plan.specs.Tables.{table_size, has_mmr}
+use Rattle.rules.specs.declared.Work.{Work}
 
 -- where a call has its mapped samples from: it works them out by the plan, or finds them in a table that it is lent
 pub data Source : Type 0 where
@@ -24,11 +25,17 @@ pub record Given : Type 0 where
   pub base : List ℕ
   pub enhancement : List ℕ
 
+abbrev pub given_by : Source → Plan → ℕ → ℕ → List ℕ → List ℕ → Given
+given_by s p f n b e = record { plan = p; source = s; first = f; count = n; base = b; enhancement = e }
+
+abbrev pub given_work : Source → Plan → Work → Given
+given_work s p w = given_by s p w.first w.count w.base.now w.enhancement.now
+
 abbrev pub given : Plan → ℕ → ℕ → List ℕ → List ℕ → Given
-given p f n b e = record { plan = p; source = by_plan; first = f; count = n; base = b; enhancement = e }
+given p f n b e = given_by by_plan p f n b e
 
 abbrev pub given_table : Plan → List ℕ → ℕ → ℕ → List ℕ → List ℕ → Given
-given_table p t f n b e = record { plan = p; source = by_table t; first = f; count = n; base = b; enhancement = e }
+given_table p t f n b e = given_by (by_table t) p f n b e
 
 -- the size of a header's picture
 abbrev pub extent : Header → Extent

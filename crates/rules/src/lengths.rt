@@ -7,6 +7,7 @@ use picture::picture_size;
 use plan::Header;
 
 // Rule 9. An enhancement that is not used may have any length.
+#[tactic(auto, unfolding(crate::specs::Rules::wrong_length))]
 pub fn is_wrong_length(h: Header, base: usize, enhancement: usize, output: usize) -> bool
     ensures { result ≡ wrong_length h base enhancement output }
 {
@@ -20,12 +21,5 @@ pub fn is_wrong_length(h: Header, base: usize, enhancement: usize, output: usize
 pub(crate) fn is_wrong_pairs(h: Header, first: usize, count: usize) -> bool
     ensures { result ≡ wrong_pairs h first count }
 {
-    let pairs = h.pairs as usize;
-    if count == 0 {
-        return true;
-    }
-    if pairs < first {
-        return true;
-    }
-    pairs - first < count
+    count == 0 || usize::from(h.pairs).saturating_sub(first) < count
 }

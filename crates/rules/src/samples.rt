@@ -7,7 +7,7 @@ ghost use Rattle.picture.specs.inner.Planes.{InPicture};
 ghost use Rattle.rules.specs.Rules.{extent, used, wrong_sample};
 ghost use Rattle.rules.specs.inner.Six.{SixWithin, some_in_six};
 
-use crate::{extent_of, is_used};
+use crate::{Work, extent_of, is_used};
 use picture::{Extent, planes_of};
 use plan::Header;
 use spans::joined_six;
@@ -17,7 +17,7 @@ fn codes_of(minus8: u8) -> u16
     requires { minus8 ≤ 2 }
     ensures { result ≡ 2 ^ (minus8 + 8) }
 {
-    (1u64 << ((minus8 as u32) + 8)) as u16
+    1u16 << (minus8 + 8)
 }
 
 // Six runs of n samples, gone over in step: four from y on, one from b on and one from r on.
@@ -51,21 +51,16 @@ fn large_in_picture(e: Extent, first: usize, last: usize, minus8: u8, run: &[u16
     large_in_six(y, b, r, p.cb.row * (last - first), minus8, run)
 }
 
-pub(crate) fn is_wrong_sample(
-    h: Header,
-    first: usize,
-    last: usize,
-    base: &[u16],
-    enhancement: &[u16],
-) -> bool
-    requires header_facts { HeaderFacts h × InPicture (extent h) first last (length base.now) }
-    requires in_picture { used h (length enhancement.now) ≡ true → InPicture (extent h) first last (length enhancement.now) }
-    ensures { result ≡ wrong_sample h first last base.now enhancement.now }
+pub(crate) fn is_wrong_sample(h: Header, work: Work<'_>) -> bool
+    requires header_facts { HeaderFacts h × InPicture (extent h) work.first (work.first + work.count) (length work.base.now) }
+    requires in_picture { used h (length work.enhancement.now) ≡ true → InPicture (extent h) work.first (work.first + work.count) (length work.enhancement.now) }
+    ensures { let w = work.entry in result ≡ wrong_sample h w.first (w.first + w.count) w.base.now w.enhancement.now }
 {
     let e = extent_of(h);
-    let large = large_in_picture(e, first, last, h.bl, base);
-    if !is_used(h, enhancement.len()) {
+    let last = work.first + work.count;
+    let large = large_in_picture(e, work.first, last, h.bl, work.base);
+    if !is_used(h, work.enhancement.len()) {
         return large;
     }
-    large | large_in_picture(e, first, last, h.el, enhancement)
+    large | large_in_picture(e, work.first, last, h.el, work.enhancement)
 }

@@ -2,17 +2,18 @@
 // standard input. A stream that is malformed ends there.
 #![tactic(auto)]
 
-use compose::{Composed, compose_row_pairs, picture_size};
+use compose::{compose_row_pairs, picture_size};
 use plan::Plan;
+use refusals::Refusal;
 use streams::{BLOCK_ROOM, next_block, next_number, next_run, print_refusal, print_run, untouch};
 
 // A run has at most so many samples: those of one row pair, 4,096 columns wide.
 const RUN_ROOM: usize = 12288;
 
-fn print_answer(answer: Composed, output: &[u16]) {
+fn print_answer(answer: Result<(), Refusal>, output: &[u16]) {
     match answer {
-        Composed::Written => print_run(output),
-        Composed::Refused(number) => print_refusal(number),
+        Ok(()) => print_run(output),
+        Err(refusal) => print_refusal(refusal.number()),
     }
 }
 

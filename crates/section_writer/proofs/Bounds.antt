@@ -7,18 +7,19 @@ use native.Mathlib.Nat.{lt_of_lt_of_le}
 use native.Mathlib.Omega.{arith}
 use lib.Dec.{eqb, leb}
 use lib.ListN.{length, get_or}
+use Rattle.std.specs.Prelude.{Some}
 use borrow.Author.Tests.{eqb-true, leb-true, lt-ltb, le-leb}
 use Rattle.plan.specs.declared.Header.{Header}
 use Rattle.plan.specs.declared.Component.{Component}
 use Rattle.plan.specs.Ranges.{most_n, count_fits, idc_fits, order_fits}
 use Rattle.plan.specs.Rule7.{piece_places, pieces_used, no_piece, piece_fits, pivots_fit, pieces_fit, nlq_fits, component_fits}
-use Rattle.plan.specs.Versions.{pieces_carried, can_carry}
+use Rattle.plan.specs.Versions.{pieces_carried}
 use Rattle.plan.proofs.Truths.{both, every-at}
 use Rattle.plan.proofs.Carrying.{carried_le}
 use Rattle.pen.specs.inner.Putting.{Inked}
 use Rattle.pen.proofs.Inking.{inked, turns_between}
 use Rattle.section_writer.specs.Section.{piece_bytes, section_bytes}
-use Rattle.section_writer.specs.inner.Writing.{piece_length, has_section, put_section, section_length}
+use Rattle.section_writer.specs.inner.Writing.{piece_length, put_section, section_length}
 use Rattle.section_writer.proofs.Sizes.{piece_size, section_parts, is_length}
 
 -- the smallest section of a version, and the largest of component k
@@ -82,7 +83,6 @@ module _ (k : ℕ) (h : Header) (c : Component) (e : component_fits k h c ≡ tr
       go false true n h a b e = (omega arith, omega arith)
       go false false n h a b e = (omega arith, omega arith)
 
-  pub section_inked : {s s' : List ℕ} (at version d : ℕ) {r : ℕ} → can_carry version c ≡ true → d ≤ 32 → at + length (section_bytes version d c) ≤ length s → s' ≡ put_section s at version d c → r ≡ section_length version c → Inked s at (section_bytes version d c) s' (at + r)
-  section_inked at version d carry deep room f g =
-      let has : has_section version c ≡ true = rw (le-leb c.n most_n few, carry) in
-      rw (← is_length version c d has g) (inked (section_bytes version d c) room (rw (le-leb d 32 deep, le-leb c.n most_n few) at f))
+  pub section_inked : {s s' : List ℕ} (at version d : ℕ) {r : ℕ} → d ≤ 32 → at + length (section_bytes version d c) ≤ length s → s' ≡ put_section s at version d c → Some r ≡ section_length version c → Inked s at (section_bytes version d c) s' (at + r)
+  section_inked at version d deep room f g =
+      rw (← (is_length version c d g).1) (inked (section_bytes version d c) room (rw (le-leb d 32 deep, le-leb c.n most_n few) at f))

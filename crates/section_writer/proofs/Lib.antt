@@ -1,3 +1,4 @@
+pub mod Carrying
 pub mod Sizes
 pub mod Making
 pub mod Bounds

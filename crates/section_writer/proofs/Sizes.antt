@@ -3,11 +3,12 @@ use mathlib.Core.Path.{◌≡◌, refl, sym, ap, ◌∙◌}
 use mathlib.Core.Bool.{Bool, true, false}
 use mathlib.Core.List.{List, ◌++◌}
 use Prim.Native.Nat.{ℕ, ◌+◌, ◌*◌, ◌≤◌, ◌<◌}
-use native.Mathlib.Nat.{le_antisymm}
 use native.Mathlib.Omega.{arith}
 use lib.Dec.{eqb}
 use lib.IntN.{pos}
-use lib.ListN.{length, get_or, length-append}
+use lib.ListN.{length, take, get_or, length-append}
+use Rattle.std.proofs.lemmas.List.{get_or-take, length-take-le}
+use Rattle.std.specs.Prelude.{Some, None}
 use borrow.Author.Tests.{lt-leb, le-leb}
 use Rattle.plan.specs.declared.Piece.{Piece}
 use Rattle.plan.specs.declared.Nlq.{Nlq}
@@ -17,7 +18,7 @@ use Rattle.plan.specs.Rule7.{pivots_used, coefficients_used, no_piece}
 use Rattle.plan.specs.Versions.{pieces_carried, can_carry}
 use Rattle.pen.specs.Bytes.{bytes_of, number_bytes, in_turn}
 use Rattle.pen.proofs.Putting.{number-length}
-use Rattle.pen.proofs.Inking.{two_length, no_turn, turn_length, turns_length, turns_alike}
+use Rattle.pen.proofs.Inking.{two_length, no_turn, turn_length, turns_length, turns_alike, turns_same}
 use Rattle.section_writer.specs.Section.{integer_width, piece_bytes, nlq_bytes, section_bytes}
 use Rattle.section_writer.specs.inner.Writing.{row_bytes, piece_length, most_length, has_section, section_length}
 
@@ -54,56 +55,58 @@ module _ (d : ℕ) where
   section_parts version c = in_all (bytes_of 1 c.n) (pivots_of c) (pieces_of version c) (nlq_bytes d c.nlq) refl (pivots_size c) refl (nlq_size c.nlq)
 
 -- the denominator does not matter
-any_denominator : (version d : ℕ) (c : Component) → length (section_bytes version d c) ≡ length (section_bytes version 0 c)
+pub any_denominator : (version d : ℕ) (c : Component) → length (section_bytes version d c) ≡ length (section_bytes version 0 c)
 any_denominator version d c =
     let e = turns_alike (λ p. piece_bytes d (get_or c.pieces p no_piece)) (λ p. piece_bytes 0 (get_or c.pieces p no_piece)) (λ p. piece_size d (get_or c.pieces p no_piece) ∙ sym (piece_size 0 (get_or c.pieces p no_piece))) (pieces_carried version c.n) in
     section_parts d version c ∙ rw e (sym (section_parts 0 version c))
 
+-- the pieces that are carried, and the pivots, as lists
+pub taken_pieces : (version : ℕ) (c : Component) (d : ℕ) {l : List Piece} → l ≡ take (pieces_carried version c.n) c.pieces → length l ≡ pieces_carried version c.n → in_turn (length l) (λ p. piece_bytes d (get_or l p no_piece)) ≡ pieces_of d version c
+taken_pieces version c d e g =
+    rw (g, e) (turns_same (λ p. piece_bytes d (get_or (take (pieces_carried version c.n) c.pieces) p no_piece)) (λ p. piece_bytes d (get_or c.pieces p no_piece)) (pieces_carried version c.n) (λ p h. ap (piece_bytes d) (get_or-take (pieces_carried version c.n) c.pieces p no_piece h)))
+
+pub taken_pivots : (c : Component) (d : ℕ) {k : ℕ} → k ≡ c.n → k + 2 ≤ length c.preds → in_turn (length (take (k + 2) c.preds)) (λ i. bytes_of 2 (get_or (take (k + 2) c.preds) i 0)) ≡ pivots_of d c
+taken_pivots c d {k} e h =
+    rw (length-take-le (k + 2) c.preds h) (turns_same (λ i. bytes_of 2 (get_or (take (k + 2) c.preds) i 0)) (λ i. bytes_of 2 (get_or c.preds i 0)) (k + 2) (λ i h. ap (bytes_of 2) (get_or-take (k + 2) c.preds i 0 h)))
+    ∙ ap (λ (j : ℕ). in_turn (j + 2) (λ i. bytes_of 2 (get_or c.preds i 0))) e
+
 -- a loop that adds up a section's length: p of its pieces are counted
-pub record Counted (c : Component) (carried size p : ℕ) : Type 0 where
-  pub few : p ≤ carried
-  pub is : size ≡ 1 + pivots_used c.n * 2 + 17 + length (in_turn p (λ p. piece_bytes 0 (get_or c.pieces p no_piece)))
+pub record Counted (n : ℕ) (carried : List Piece) (size p : ℕ) : Type 0 where
+  pub is : size ≡ 1 + pivots_used n * 2 + 17 + length (in_turn p (λ p. piece_bytes 0 (get_or carried p no_piece)))
   pub small : size ≤ 532 + p * most_length
 
-module _ (c : Component) {carried : ℕ} where
-  pub none_counted : {size : ℕ} → (size ≡ 1 + pivots_used c.n * 2 + 17) × (size ≤ 532) → Counted c carried size 0
-  none_counted f = record { few = omega arith; is = omega (arith, f.0, no_turn (λ p. piece_bytes 0 (get_or c.pieces p no_piece))); small = omega (arith, f.1) }
+module _ {n : ℕ} (carried : List Piece) where
+  pub none_counted : n < 256 → Counted n carried (1 + (n + 2) * 2 + 17) 0
+  none_counted h = let none = no_turn (λ p. piece_bytes 0 (get_or carried p no_piece)) in record { is = omega (arith, none); small = omega arith }
 
-  pub one_counted : {size p more : ℕ} → Counted c carried size p → p < carried → (more ≡ piece_length (get_or c.pieces p no_piece).idc (get_or c.pieces p no_piece).order) × (more ≤ most_length) → Counted c carried (size + more) (p + 1)
-  one_counted {p = p} h b f =
+  pub one_counted : {size p more : ℕ} → Counted n carried size p → (more ≡ piece_length (get_or carried p no_piece).idc (get_or carried p no_piece).order) × (more ≤ most_length) → Counted n carried (size + more) (p + 1)
+  one_counted {p = p} h f =
       record {
-        few = omega arith;
-        is = omega (arith, h.is, f.0, piece_size 0 (get_or c.pieces p no_piece), turn_length (λ p. piece_bytes 0 (get_or c.pieces p no_piece)) p);
+        is = omega (arith, h.is, f.0, piece_size 0 (get_or carried p no_piece), turn_length (λ p. piece_bytes 0 (get_or carried p no_piece)) p);
         small = omega (arith, h.small, f.1);
       }
 
-  pub all_counted : {size p : ℕ} (version : ℕ) → Counted c carried size p → carried ≤ p → carried ≡ pieces_carried version c.n → size ≡ 1 + pivots_used c.n * 2 + 17 + length (pieces_of 0 version c)
-  all_counted {p = p} version h b e =
-      let all : p ≡ pieces_carried version c.n = le_antisymm h.few b ∙ e in
-      rw all at h.is
-
 -- what the code works out
 module _ (version : ℕ) (c : Component) where
-  pub too_many : most_n < c.n → 0 ≡ section_length version c
+  pub too_many : most_n < c.n → None ≡ section_length version c
   too_many h = rw (lt-leb c.n most_n h)
 
-  pub not_all : c.n ≤ most_n → can_carry version c ≡ false → 0 ≡ section_length version c
+  pub not_all : c.n ≤ most_n → can_carry version c ≡ false → None ≡ section_length version c
   not_all h e = rw (le-leb c.n most_n h, e)
 
-  pub worked_out : {m : ℕ} → c.n ≤ most_n → can_carry version c ≡ true → m ≡ 1 + pivots_used c.n * 2 + 17 + length (pieces_of 0 version c) → m ≡ section_length version c
-  worked_out h k e = rw (le-leb c.n most_n h, k, e) (omega (arith, section_parts 0 version c))
+  -- the length with those of its pieces that are carried
+  pub with_pieces : {l : List Piece} {k m : ℕ} → l ≡ take (pieces_carried version c.n) c.pieces → length l ≡ pieces_carried version c.n → k ≡ length l
+      → m ≡ 1 + pivots_used c.n * 2 + 17 + length (in_turn k (λ p. piece_bytes 0 (get_or l p no_piece))) → m ≡ length (section_bytes version 0 c)
+  with_pieces {l} {k} {m} e g h f =
+      f ∙ rw (h, taken_pieces version c 0 e g) (omega (arith, section_parts 0 version c))
 
-  -- the length whatever the denominator
-  pub in_all_bytes : (d : ℕ) {m : ℕ} → m ≡ 1 + pivots_used c.n * 2 + 17 + length (pieces_of 0 version c) → length (section_bytes version d c) ≡ m
-  in_all_bytes d e = any_denominator version d c ∙ omega (arith, e, section_parts 0 version c)
+  pub worked_out : {m : ℕ} → c.n ≤ most_n → can_carry version c ≡ true → m ≡ length (section_bytes version 0 c) → Some m ≡ section_length version c
+  worked_out h k e = rw (le-leb c.n most_n h, k, e)
 
-  -- it says whether there is a section
-  pub some_written : {m : ℕ} → m ≡ section_length version c → (m ≡ 0 → ⊥) → has_section version c ≡ true
-  some_written {m} e f = go (has_section version c) refl
+  -- a length says that there is a section, and is its
+  pub is_length : (d : ℕ) {m : ℕ} → Some m ≡ section_length version c → (has_section version c ≡ true) × (length (section_bytes version d c) ≡ m)
+  is_length d {m} e = go (has_section version c) refl
     where
-      go : (t : Bool) → has_section version c ≡ t → t ≡ true
-      go true p = refl
-      go false p = absurd (f (rw p at e))
-
-  pub is_length : (d : ℕ) {m : ℕ} → has_section version c ≡ true → m ≡ section_length version c → length (section_bytes version d c) ≡ m
-  is_length d h e = any_denominator version d c ∙ sym (rw h at e)
+      go : (t : Bool) → has_section version c ≡ t → (has_section version c ≡ true) × (length (section_bytes version d c) ≡ m)
+      go true p = let f = rw p at e in (p, any_denominator version d c ∙ sym cc)
+      go false p = let f = rw p at e in absurd cc

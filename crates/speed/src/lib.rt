@@ -1,5 +1,6 @@
-// Row jobs of both kinds, the filling of a table, and the writer, as a C harness calls them, for measuring only. `speed_c`
-// exports them.
+// Row jobs of both kinds, the filling of a table, and the writer, as a C harness calls them, for measuring only: each answers a
+// number, which is what C takes. `speed_c` exports them. It is a static library, which no crate can use, and so what they promise
+// stands here, where `calls` has it.
 #![tactic(auto)]
 
 ghost use Rattle.std.specs.Prelude.{◌≡◌, length};
@@ -8,7 +9,7 @@ ghost use Rattle.jobs.specs.Jobs.{job, table_job, job_answer, output_after, mark
 ghost use Rattle.writer.specs.Writing.{answer, written};
 
 use filling::fill_table;
-use jobs::{compose_job, number};
+use jobs::compose_job;
 use plan::Plan;
 use table_jobs::compose_table_job;
 
@@ -28,7 +29,7 @@ pub fn speed_job(
     ensures writes { output.new ≡ output_after (job plan open_ticket ticket first count base.now enhancement.now) output.old marks.old }
     ensures marking { marks.new ≡ marks_after (job plan open_ticket ticket first count base.now enhancement.now) output.old marks.old }
 {
-    number(compose_job(
+    compose_job(
         plan,
         open_ticket,
         ticket,
@@ -38,7 +39,8 @@ pub fn speed_job(
         enhancement,
         output,
         marks,
-    ))
+    )
+    .number()
 }
 
 // The same of a job that is lent a table.
@@ -58,7 +60,7 @@ pub fn speed_table_job(
     ensures writes { output.new ≡ output_after (table_job plan table.now open_ticket ticket first count base.now enhancement.now) output.old marks.old }
     ensures marking { marks.new ≡ marks_after (table_job plan table.now open_ticket ticket first count base.now enhancement.now) output.old marks.old }
 {
-    table_jobs::number(compose_table_job(
+    compose_table_job(
         plan,
         table,
         open_ticket,
@@ -69,7 +71,8 @@ pub fn speed_table_job(
         enhancement,
         output,
         marks,
-    ))
+    )
+    .number()
 }
 
 // 0 where the table is filled, else the refusal's number.
@@ -77,7 +80,7 @@ pub fn speed_fill(plan: Plan, table: &mut [u16]) -> u8
     ensures answers { result ≡ (filling_answer plan (length table.old)).number }
     ensures writes { table.new ≡ table_after plan table.old }
 {
-    filling::number(fill_table(plan, table))
+    refusals::number(fill_table(plan, table))
 }
 
 // 0 where the block is written, else the refusal's number.
@@ -85,5 +88,5 @@ pub fn speed_write(plan: Plan, version: u16, out: &mut [u8]) -> u8
     ensures answers { result ≡ (answer plan version (length out.old)).number }
     ensures writes { out.new ≡ written plan version out.old }
 {
-    writer::number(writer::write(plan, version, out))
+    refusals::number(writer::write(plan, version, out))
 }

@@ -13,7 +13,6 @@ use planes::{enhanced_plane, plain_plane};
 use residual::cut_numbers;
 use rows::Rows;
 use rules::extent_of;
-use spans::least;
 
 // Without residual. Row pairs that are full by the marks are kept.
 pub(crate) fn plain_planes(
@@ -42,25 +41,14 @@ pub(crate) fn plain_planes(
     );
 }
 
-// A sample, and that it has 16 bits: of what is read from a slice that is not known.
-fn sample(v: u16) -> u16
-    ensures { (result ≡ v) × (result ≤ 65535) }
-{
-    v
-}
-
 // A part of at most 1,024 samples as a table.
 fn table_of(part: &[u16]) -> [u16; 1024]
     ensures is { result ≡ table 1024 (at part.now) }
     ensures low { (i : ℕ) → at result i ≤ 65535 }
 {
-    let n = least(part.len(), 1024);
+    let n = part.len().min(1024);
     let mut table = [0u16; 1024];
-    let mut s = 0;
-    while s < n {
-        table[s] = sample(part[s]);
-        s += 1;
-    }
+    table[..n].copy_from_slice(&part[..n]);
     table
 }
 

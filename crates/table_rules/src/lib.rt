@@ -2,30 +2,31 @@
 // looked through once: it meets neither 7 nor 13.
 #![tactic(auto)]
 
-ghost use Rattle.std.specs.Prelude.{◌≡◌, cond, not, eqb};
+ghost use Rattle.std.specs.Prelude.{◌≡◌, cond, Ok, Err};
+ghost use Rattle.refusals.specs.Refusals.{number_in};
 ghost use Rattle.plan.specs.Rule7.{fitting};
-ghost use Rattle.plan.specs.Tables.{table_size, has_mmr};
-ghost use Rattle.plan.specs.inner.Facts.{HeaderFacts};
-ghost use Rattle.rules.specs.Rules.{given_table, refusal};
+ghost use Rattle.plan.specs.Tables.{has_mmr};
+ghost use Rattle.rules.specs.Rules.{by_table, given_work, refusal};
 
-use plan::{Header, Plan};
+use filling::table_size;
+use plan::Plan;
+use refusals::Refusal;
 use rule_seven::is_usable;
 use rules::lengths::is_wrong_length;
-use rules::refusal_of_pictures;
+use rules::{Work, refusal_of_pictures};
 
-// Rule 9 on the table's length.
-fn is_wrong_table(h: Header, table: usize) -> bool
-    requires { HeaderFacts h }
-    ensures { result ≡ not (eqb table (table_size h)) }
-{
-    table != (3usize << ((h.bl as u32) + 8))
+// How the pieces of a plan map: by polynomials alone, or some by MMR.
+#[derive(Clone, Copy)]
+enum Method {
+    Polynomials,
+    Mmr,
 }
 
-// Rules 7 and 13 by one look at a plan: 0 where it meets 7, 1 where it has polynomials alone, 2 where it has MMR too. With
-// polynomials alone each component is one that luma could be, and so it is asked first. This is not a call of `rule_seven`:
-// in its one caller the components are handed on where they lie in the plan, and else they are copied.
-fn method_of(plan: Plan) -> u8
-    ensures { result ≡ cond (fitting plan) (cond (has_mmr plan) 2 1) 0 }
+// Rules 7 and 13 by one look at a plan: it is refused where it meets 7. With polynomials alone each component is one that luma
+// could be, and so it is asked first. This is not a call of `rule_seven`: in its one caller the components are handed on where
+// they lie in the plan, and else they are copied.
+fn method_of(plan: Plan) -> Result<Method, Refusal>
+    ensures { result ≡ cond (fitting plan) (Ok (cond (has_mmr plan) Method.Mmr Method.Polynomials)) (Err Refusal.Plan) }
 {
     let h = plan.header;
     let y = plan.y;
@@ -35,38 +36,36 @@ fn method_of(plan: Plan) -> u8
     let cr = plan.cr;
     let red = is_usable(0, h, cr);
     if luma & (blue & red) {
-        return 1;
+        return Ok(Method::Polynomials);
     }
     let any_blue = is_usable(1, h, cb);
     let any_red = is_usable(2, h, cr);
-    if luma & (any_blue & any_red) { 2 } else { 0 }
+    if luma & (any_blue & any_red) {
+        Ok(Method::Mmr)
+    } else {
+        Err(Refusal::Plan)
+    }
 }
 
-// The first rule met, in this order; 0 where none is. The plan is asked once and not read again: handed to one call more it
-// would be copied once more.
+// Refuses by the first rule met, in this order. The plan is asked once and not read again: handed to one call more it would be
+// copied once more.
 pub fn refusal_of(
     plan: Plan,
     table: &[u16],
-    first: usize,
-    count: usize,
-    base: &[u16],
-    enhancement: &[u16],
+    work: Work<'_>,
     output: usize,
-) -> u8
-    ensures { result ≡ refusal (given_table plan table.now first count base.now enhancement.now) output }
+) -> Result<(), Refusal>
+    ensures { number_in result ≡ refusal (given_work (by_table table.now) plan work.entry) output }
 {
-    let method = method_of(plan);
-    if method == 0 {
-        return 7;
-    }
+    let method = method_of(plan)?;
     let h = plan.header;
-    let pictures = is_wrong_length(h, base.len(), enhancement.len(), output);
-    let wrong = pictures | is_wrong_table(h, table.len());
+    let pictures = is_wrong_length(h, work.base.len(), work.enhancement.len(), output);
+    let wrong = pictures | (table.len() != table_size(h));
     if wrong {
-        return 9;
+        return Err(Refusal::Run);
     }
-    if method == 2 {
-        return 13;
+    match method {
+        Method::Mmr => Err(Refusal::Method),
+        Method::Polynomials => refusal_of_pictures(h, work, output),
     }
-    refusal_of_pictures(h, first, count, base, enhancement, output)
 }

@@ -3,15 +3,16 @@
 // All that is lent lies between guards, which nobody may touch.
 #![tactic(auto)]
 
-use filling::{Filling, fill_table};
-use jobs::{Answer, Opened, compose_job, open_picture};
+use filling::fill_table;
+use jobs::{Answer, compose_job, open_picture};
 use plan::Plan;
+use refusals::Refusal;
 use streams::guards::{GUARD, marks_kept, next_marks, samples_kept, say_touched};
 use streams::nights::{
     next_choice, next_runs, next_ticket, print_done, print_marks, print_open, run_of,
 };
 use streams::{BLOCK_ROOM, next_block, next_byte, next_number, print_refusal, print_run, untouch};
-use table_jobs::{TableAnswer, compose_table_job};
+use table_jobs::compose_table_job;
 
 // How much of each room is lent.
 #[derive(Clone, Copy)]
@@ -30,26 +31,19 @@ fn say_answer(answer: Answer) {
     }
 }
 
-fn say_table_answer(answer: TableAnswer) {
-    match answer {
-        TableAnswer::Done(left, base_only) => print_done(left, base_only),
-        TableAnswer::Refused(number) => print_refusal(number),
-    }
-}
-
-fn say_opened(opened: Opened) {
+fn say_opened(opened: Result<u32, Refusal>) {
     match opened {
-        Opened::Open(ticket) => print_open(ticket),
-        Opened::Refused(number) => print_refusal(number),
+        Ok(ticket) => print_open(ticket),
+        Err(refusal) => print_refusal(refusal.number()),
     }
 }
 
-fn say_filling(filling: Filling) {
+fn say_filling(filling: Result<(), Refusal>) {
     match filling {
-        Filling::Filled => {
+        Ok(()) => {
             io::write_all(1, b"filled\n");
         }
-        Filling::Refused(number) => print_refusal(number),
+        Err(refusal) => print_refusal(refusal.number()),
     }
 }
 
@@ -70,7 +64,7 @@ fn next_job(
     let base = run_of(runs, lengths, next_byte());
     let enhancement = run_of(runs, lengths, next_byte());
     if by_table {
-        say_table_answer(compose_table_job(
+        say_answer(compose_table_job(
             plan,
             table,
             open_ticket,

@@ -5,8 +5,8 @@
 #![tactic(auto)]
 
 use plan::Plan;
+use refusals::Refusal;
 use streams::{BLOCK_ROOM, next_block, next_byte, next_number, next_plan};
-use writer::Writing;
 
 // The longest slice that is lent, the guard on each side of it, and both guards.
 const SLICE_ROOM: usize = 6720;
@@ -24,16 +24,16 @@ fn say_number(v: usize) {
 }
 
 // Says the answer and gives the length that was written, 0 where it was refused.
-fn say_answer(answer: Writing) -> usize {
+fn say_answer(answer: Result<usize, Refusal>) -> usize {
     match answer {
-        Writing::Written(n) => {
+        Ok(n) => {
             io::write_all(1, b"written ");
             say_number(n);
             n
         }
-        Writing::Refused(number) => {
+        Err(refusal) => {
             io::write_all(1, b"refused ");
-            say_number(number as usize);
+            say_number(refusal.number() as usize);
             0
         }
     }

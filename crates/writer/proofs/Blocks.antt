@@ -7,6 +7,7 @@ use native.Mathlib.Nat.{le_trans}
 use native.Mathlib.Omega.{arith}
 use lib.Dec.{eqb}
 use lib.ListN.{length, drop, length-append}
+use Rattle.std.specs.Prelude.{Some, None}
 use borrow.Author.Tests.{le-leb}
 use Rattle.plan.specs.declared.Component.{Component}
 use Rattle.plan.specs.declared.Plan.{Plan}
@@ -16,14 +17,16 @@ use Rattle.plan.specs.Versions.{can_carry}
 use Rattle.plan.proofs.Truths.{both}
 use Rattle.plan.proofs.Facts.{header_facts, y_usable, cb_usable, cr_usable}
 use Rattle.pen.specs.Bytes.{bytes_of}
-use Rattle.pen.specs.inner.Putting.{Inked}
+use Rattle.pen.specs.inner.Putting.{put_at, Inked}
 use Rattle.pen.proofs.Inking.{on, same_length, from_front}
 use Rattle.header_writer.specs.Header.{header_bytes}
+use Rattle.header_writer.proofs.Framing.{header_inked}
 use Rattle.section_writer.specs.Section.{section_bytes}
 use Rattle.section_writer.specs.inner.Writing.{has_section, put_section, section_length}
 use Rattle.section_writer.proofs.Sizes.{is_length}
 use Rattle.section_writer.proofs.Bounds.{least, most, least_le, most_le, few, section-between, section_inked}
 use Rattle.writer.specs.Writing.{trailer_bytes, block, writable}
+use Rattle.writer.specs.inner.Lengths.{AreLengths}
 
 -- the parts of a block
 module _ (p : Plan) (version : ℕ) where
@@ -60,9 +63,6 @@ module _ (p : Plan) (version : ℕ) where
     pub carries : can_carry version c ≡ true
 
   module _ (k : ℕ) {c : Component} (q : Carried k c) where
-    has : has_section version c ≡ true
-    has = rw (le-leb c.n most_n (few k p.header c q.fits), q.carries)
-
     between : (least version ≤ length (section_bytes version p.header.d c)) × (length (section_bytes version p.header.d c) ≤ most k version)
     between = section-between k p.header c q.fits version p.header.d
 
@@ -70,8 +70,12 @@ module _ (p : Plan) (version : ℕ) where
     some_bytes = le_trans (least_le version) between.0
 
     -- a section's length, as it is answered
-    pub its_length : {a : ℕ} → a ≡ section_length version c → (length (section_bytes version p.header.d c) ≡ a) × (a ≤ 3078)
-    its_length f = let l = is_length version c p.header.d has f in (l, rw (← l) (le_trans between.1 (most_le k version)))
+    pub its_length : {a : ℕ} → Some a ≡ section_length version c → (length (section_bytes version p.header.d c) ≡ a) × (a ≤ 3078)
+    its_length f = let l = (is_length version c p.header.d f).1 in (l, rw (← l) (le_trans between.1 (most_le k version)))
+
+    -- there is one
+    pub some_length : None ≡ section_length version c → ⊥
+    some_length f = let has : has_section version c ≡ true = rw (le-leb c.n most_n (few k p.header c q.fits), q.carries) in let g = rw has at f in absurd cc
 
   module _ (e : writable p version ≡ true) where
     parts : (fitting p ≡ true) × ((can_carry version p.y ≡ true) × ((can_carry version p.cb ≡ true) × (can_carry version p.cr ≡ true)))
@@ -104,34 +108,52 @@ module _ (p : Plan) (version : ℕ) where
         go true x y z f = (omega (arith, x.0, y.0, z.0), omega (arith, x.1, y.1, z.1))
         go false x y z f = (omega (arith, x.0, y.0, z.0), omega (arith, x.1, y.1, z.1))
 
-    -- all three
-    module _ {a b c : ℕ} (f : a ≡ section_length version p.y) (g : b ≡ section_length version p.cb) (i : c ≡ section_length version p.cr) where
-      lengths : (length s0 ≡ a) × ((length s1 ≡ b) × (length s2 ≡ c))
-      lengths = ((its_length 0 y_carried f).0, ((its_length 1 cb_carried g).0, (its_length 2 cr_carried i).0))
+  -- all three
+  module _ {a b c : ℕ} (l : AreLengths p version a b c) where
+    y_carries : Carried 0 p.y
+    y_carries = y_carried l.writes
 
-      pub added_up : 24 + a + b + c + 12 ≡ length (block p version)
-      added_up = rw (← lengths.0, ← lengths.1.0, ← lengths.1.1) (sym block_size)
+    cb_carries : Carried 1 p.cb
+    cb_carries = cb_carried l.writes
 
-      behind : trailer_bytes (24 + (a + (b + c))) (a + (b + c)) (b + c) c version ≡ trailer_of
-      behind = rw (lengths.0, lengths.1.0, lengths.1.1)
+    cr_carries : Carried 2 p.cr
+    cr_carries = cr_carried l.writes
 
-      module _ {s t0 t1 t2 t3 : List ℕ} (room : length (block p version) ≤ length s) (h : Inked s 0 (header_bytes p.header) t0 24)
-          (u : t1 ≡ put_section t0 24 version p.header.d p.y) (v : t2 ≡ put_section t1 (24 + a) version p.header.d p.cb) (w : t3 ≡ put_section t2 (24 + a + b) version p.header.d p.cr) where
-        all : 24 + length s0 + length s1 + length s2 + 12 ≤ length s
-        all = omega (arith, block_size)
+    pub small : (a ≤ 3078) × ((b ≤ 3078) × (c ≤ 3078))
+    small = ((its_length 0 y_carries l.of_y).1, ((its_length 1 cb_carries l.of_cb).1, (its_length 2 cr_carries l.of_cr).1))
 
-        y_inked : Inked t0 24 s0 t1 (24 + a)
-        y_inked = section_inked 0 p.header p.y y_carried.fits 24 version p.header.d y_carried.carries deep (omega (arith, all, same_length h)) u f
+    lengths : (length s0 ≡ a) × ((length s1 ≡ b) × (length s2 ≡ c))
+    lengths = ((its_length 0 y_carries l.of_y).0, ((its_length 1 cb_carries l.of_cb).0, (its_length 2 cr_carries l.of_cr).0))
 
-        cb_inked : Inked t1 (24 + a) s1 t2 (24 + a + b)
-        cb_inked = section_inked 1 p.header p.cb cb_carried.fits (24 + a) version p.header.d cb_carried.carries deep (omega (arith, all, same_length h, same_length y_inked, lengths.0)) v g
+    pub added_up : 24 + a + b + c + 12 ≡ length (block p version)
+    added_up = rw (← lengths.0, ← lengths.1.0, ← lengths.1.1) (sym block_size)
 
-        cr_inked : Inked t2 (24 + a + b) s2 t3 (24 + a + b + c)
-        cr_inked = section_inked 2 p.header p.cr cr_carried.fits (24 + a + b) version p.header.d cr_carried.carries deep (omega (arith, all, same_length h, same_length y_inked, same_length cb_inked, lengths.0, lengths.1.0)) w i
+    behind : trailer_bytes (24 + (a + (b + c))) (a + (b + c)) (b + c) c version ≡ trailer_of
+    behind = rw (lengths.0, lengths.1.0, lengths.1.1)
 
-        pub trailer_room : 24 + a + b + c + 12 ≤ length t3
-        trailer_room = omega (arith, all, same_length h, same_length y_inked, same_length cb_inked, same_length cr_inked, lengths.0, lengths.1.0, lengths.1.1)
+    module _ (s : List ℕ) {t0 t1 t2 t3 : List ℕ} (room : 24 + a + b + c + 12 ≤ length s) (h : t0 ≡ put_at s 0 (header_bytes p.header))
+        (u : t1 ≡ put_section t0 24 version p.header.d p.y) (v : t2 ≡ put_section t1 (24 + a) version p.header.d p.cb) (w : t3 ≡ put_section t2 (24 + a + b) version p.header.d p.cr) where
+      all : 24 + length s0 + length s1 + length s2 + 12 ≤ length s
+      all = omega (arith, added_up, block_size)
 
-        pub made_block : {t4 : List ℕ} → Inked t3 (24 + a + b + c) (trailer_bytes (24 + (a + (b + c))) (a + (b + c)) (b + c) c version) t4 (24 + a + b + c + 12) → t4 ≡ block p version ++ drop (length (block p version)) s
-        unfolding block
-        made_block t = from_front {bytes = block p version} (on h (on y_inked (on cb_inked (on cr_inked (rw behind at t))))) room
+      shallow : p.header.d ≤ 32
+      shallow = deep l.writes
+
+      headed : Inked s 0 (header_bytes p.header) t0 24
+      headed = header_inked p.header (omega (arith, room)) h
+
+      y_inked : Inked t0 24 s0 t1 (24 + a)
+      y_inked = section_inked 0 p.header p.y y_carries.fits 24 version p.header.d shallow (omega (arith, all, same_length headed)) u l.of_y
+
+      cb_inked : Inked t1 (24 + a) s1 t2 (24 + a + b)
+      cb_inked = section_inked 1 p.header p.cb cb_carries.fits (24 + a) version p.header.d shallow (omega (arith, all, same_length headed, same_length y_inked, lengths.0)) v l.of_cb
+
+      cr_inked : Inked t2 (24 + a + b) s2 t3 (24 + a + b + c)
+      cr_inked = section_inked 2 p.header p.cr cr_carries.fits (24 + a + b) version p.header.d shallow (omega (arith, all, same_length headed, same_length y_inked, same_length cb_inked, lengths.0, lengths.1.0)) w l.of_cr
+
+      pub trailer_room : 24 + a + b + c + 12 ≤ length t3
+      trailer_room = omega (arith, all, same_length headed, same_length y_inked, same_length cb_inked, same_length cr_inked, lengths.0, lengths.1.0, lengths.1.1)
+
+      pub made_block : {t4 : List ℕ} → Inked t3 (24 + a + b + c) (trailer_bytes (24 + (a + (b + c))) (a + (b + c)) (b + c) c version) t4 (24 + a + b + c + 12) → t4 ≡ block p version ++ drop (length (block p version)) s
+      unfolding block
+      made_block t = from_front {bytes = block p version} (on headed (on y_inked (on cb_inked (on cr_inked (rw behind at t))))) (omega (arith, room, added_up))

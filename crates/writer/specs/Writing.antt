@@ -1,14 +1,13 @@
 -- Writing a composing block: the house layout as bytes, the refusals in their order, and what a call leaves in the slice.
-use Rattle.std.specs.Prelude.{Bool, true, cond, not, ◌&&◌, ◌≡◌, List, [], ◌∷◌, ◌++◌, ℕ, ◌+◌, ◌≤◌, ltb, eqb, length, drop}
-use Rattle.refusals.specs.Refusals.{Rule, rule, first_met, Outcome, granted, denied, outcome}
+use Rattle.std.specs.Prelude.{Bool, true, cond, not, ◌&&◌, ◌≡◌, List, [], ◌∷◌, ◌++◌, ℕ, ◌+◌, ◌≤◌, ltb, eqb, length, drop, Result}
+use Rattle.refusals.specs.declared.Refusal.{Refusal}
+use Rattle.refusals.specs.Refusals.{Rule, rule, first_met, Outcome, outcome, says as told}
 use Rattle.plan.specs.declared.Plan.{Plan}
 use Rattle.plan.specs.Rule7.{fitting}
 use Rattle.plan.specs.Versions.{can_carry}
 use Rattle.pen.specs.Bytes.{bytes_of}
 use Rattle.header_writer.specs.Header.{header_bytes}
 use Rattle.section_writer.specs.Section.{section_bytes}
-use Rattle.writer.specs.declared.Writing.{Writing}
-use Rattle.writer.specs.declared.Writing.TheVariants.{Written, Refused}
 
 -- the trailer: A, D0, D1, D2 and the version, each of 16 bits, then 16 bits of zero
 unfoldable pub trailer_bytes : ℕ → ℕ → ℕ → ℕ → ℕ → List ℕ
@@ -46,10 +45,9 @@ rules p version lent = rule 7 (not (writable p version)) ∷ rule 12 (ltb lent (
 unfoldable pub refusal : Plan → ℕ → ℕ → ℕ
 refusal p version lent = first_met (rules p version lent)
 
--- what each case of the answer says: written, with the length, or refused, with the number alone
-abbrev pub says : Writing → Outcome
-says (Written n) = granted (n ∷ [])
-says (Refused k) = denied k
+-- what the answer says: written, with the length, or refused, with the number alone
+abbrev pub says : Result ℕ Refusal → Outcome
+says result = told (λ n. n ∷ []) result
 
 unfoldable pub answer : Plan → ℕ → ℕ → Outcome
 answer p version lent = outcome (refusal p version lent) (length (block p version) ∷ [])

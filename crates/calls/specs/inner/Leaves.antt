@@ -1,5 +1,6 @@
 -- The same of the calls that read off a number or a size, of those that the product's own crates make of each other, and of the
 -- benchmark's.
+use Rattle.std.specs.Prelude.{ℕ}
 use Rattle.calls.specs.promises.planes_of as planes_of_promise
 use Rattle.calls.specs.promises.extent_of as extent_of_promise
 use Rattle.calls.specs.promises.is_used as is_used_promise
@@ -42,11 +43,9 @@ use Rattle.calls.specs.promises.quantizes as quantizes_promise
 use Rattle.calls.specs.promises.least as least_promise
 use Rattle.calls.specs.promises.plain_planes as plain_planes_promise
 use Rattle.calls.specs.promises.enhanced_planes as enhanced_planes_promise
-use Rattle.calls.specs.promises.writer_number as written_number_promise
 use Rattle.calls.specs.promises.speed_write as speed_write_promise
 use Rattle.calls.specs.promises.speed_job as speed_job_promise
 use Rattle.calls.specs.promises.compose_picture_size as run_length_promise
-use Rattle.calls.specs.promises.compose_number as composed_number_promise
 use Rattle.calls.specs.promises.makes_full as makes_full_promise
 use Rattle.calls.specs.promises.marks_seen as marks_seen_promise
 use Rattle.calls.specs.promises.clear as clear_promise
@@ -54,9 +53,10 @@ use Rattle.calls.specs.promises.mark as mark_promise
 use Rattle.calls.specs.promises.is_full as is_full_promise
 use Rattle.calls.specs.promises.waiting as waiting_promise
 use Rattle.calls.specs.promises.base_only as base_only_promise
-use Rattle.calls.specs.promises.opened_number as opened_number_promise
 use Rattle.calls.specs.promises.jobs_number as job_number_promise
 use Rattle.calls.specs.promises.jobs_is_complete as is_complete_promise
+use Rattle.calls.specs.promises.refusal_number as refusal_number_promise
+use Rattle.calls.specs.promises.number_in as number_in_promise
 use Rattle.calls.specs.promises.all_polynomials as all_polynomials_promise
 use Rattle.calls.specs.promises.refusal_of_pictures as refusal_of_pictures_promise
 use Rattle.calls.specs.promises.is_wrong_length as is_wrong_length_promise
@@ -64,11 +64,8 @@ use Rattle.calls.specs.promises.plain_plane as plain_plane_promise
 use Rattle.calls.specs.promises.enhanced_plane as enhanced_plane_promise
 use Rattle.calls.specs.promises.table_rules_refusal_of as table_refusal_of_promise
 use Rattle.calls.specs.promises.table_size as table_size_promise
-use Rattle.calls.specs.promises.filling_number as filling_number_promise
 use Rattle.calls.specs.promises.seven_or as seven_or_promise
 use Rattle.calls.specs.promises.is_marked as is_marked_promise
-use Rattle.calls.specs.promises.table_jobs_number as table_job_number_promise
-use Rattle.calls.specs.promises.table_jobs_is_complete as table_job_complete_promise
 use Rattle.calls.specs.promises.speed_fill as speed_fill_promise
 use Rattle.calls.specs.promises.speed_table_job as speed_table_job_promise
 use Rattle.calls.specs.Settled.{OneAnswer, OneContent}
@@ -122,7 +119,7 @@ pub record LeavesSettled : Type 0 where
   pub speed_output : OneContent speed_job_promise.Post (λ c. let pictures = c.left.1.1.1.1.1 in pictures.1.1.0.now)
   pub speed_marks : OneContent speed_job_promise.Post (λ c. let pictures = c.left.1.1.1.1.1 in pictures.1.1.1.0.now)
   pub run_length : OneAnswer run_length_promise.Post
-  pub composed_number : OneAnswer composed_number_promise.Post
+  pub composed_number : OneAnswer (number_in_promise.Post (Unit {0}))
   pub makes_full : OneAnswer makes_full_promise.Post
   pub marks_seen : OneAnswer marks_seen_promise.Post
   pub cleared_marks : OneContent clear_promise.Post (λ c. c.left.0.now)
@@ -130,8 +127,8 @@ pub record LeavesSettled : Type 0 where
   pub is_full : OneAnswer is_full_promise.Post
   pub waiting : OneAnswer waiting_promise.Post
   pub base_only : OneAnswer base_only_promise.Post
-  pub written_number : OneAnswer written_number_promise.Post
-  pub opened_number : OneAnswer opened_number_promise.Post
+  pub refusal_number : OneAnswer refusal_number_promise.Post
+  pub opened_number : OneAnswer (number_in_promise.Post ℕ)
   pub job_number : OneAnswer job_number_promise.Post
   pub is_complete : OneAnswer is_complete_promise.Post
   pub all_polynomials : OneAnswer all_polynomials_promise.Post
@@ -141,11 +138,8 @@ pub record LeavesSettled : Type 0 where
   pub enhanced_plane : OneContent enhanced_plane_promise.Post (λ c. c.left.1.1.1.1.1.1.1.1.0.now)
   pub table_refusal_of : OneAnswer table_refusal_of_promise.Post
   pub table_size : OneAnswer table_size_promise.Post
-  pub filling_number : OneAnswer filling_number_promise.Post
   pub seven_or : OneAnswer seven_or_promise.Post
   pub is_marked : OneAnswer is_marked_promise.Post
-  pub table_job_number : OneAnswer table_job_number_promise.Post
-  pub table_job_complete : OneAnswer table_job_complete_promise.Post
   pub speed_fill : OneAnswer speed_fill_promise.Post
   pub speed_table : OneContent speed_fill_promise.Post (λ c. c.left.1.0.now)
   pub speed_table_job : OneAnswer speed_table_job_promise.Post

@@ -1,14 +1,14 @@
 -- compose::compose_row_pairs(plan, first, count, base, enhancement, marks, output)
 use Rattle.calls.specs.Lent.{Lent}
 use Rattle.compose.specs.Composing.{answer, output_after, says}
-use Rattle.compose.specs.declared.Composed.{Composed}
 use Rattle.plan.specs.declared.Plan.{Plan}
+use Rattle.refusals.specs.declared.Refusal.{Refusal}
 use Rattle.rules.specs.Rules.{given}
-use Rattle.std.specs.Prelude.{List, length, ℕ, ◌≡◌}
+use Rattle.std.specs.Prelude.{List, Result, length, ℕ, ◌≡◌}
 
-abbrev pub Keeps : Plan → ℕ → ℕ → List ℕ → List ℕ → List ℕ → List ℕ → Composed → List ℕ → Type 0
+abbrev pub Keeps : Plan → ℕ → ℕ → List ℕ → List ℕ → List ℕ → List ℕ → Result (Unit {0}) Refusal → List ℕ → Type 0
 Keeps plan first count base enhancement marks output result output' =
     (says result ≡ answer (given plan first count base enhancement) (length output)) × (output' ≡ output_after (given plan first count base enhancement) marks output)
 
-abbrev pub Post : (κs : Unit {0}) → (Plan × (ℕ × (ℕ × (Lent × (Lent × (Lent × (Lent × Unit {0}))))))) → Composed → (Plan × (ℕ × (ℕ × (Lent × (Lent × (Lent × (Lent × Unit {0}))))))) → Type 0
+abbrev pub Post : (κs : Unit {0}) → (Plan × (ℕ × (ℕ × (Lent × (Lent × (Lent × (Lent × Unit {0}))))))) → Result (Unit {0}) Refusal → (Plan × (ℕ × (ℕ × (Lent × (Lent × (Lent × (Lent × Unit {0}))))))) → Type 0
 Post κs a r s = Keeps a.0 a.1.0 a.1.1.0 a.1.1.1.0.now a.1.1.1.1.0.now a.1.1.1.1.1.0.now a.1.1.1.1.1.1.0.now r s.1.1.1.1.1.1.0.now

@@ -1,4 +1,4 @@
--- jobs::is_complete(answer)
+-- jobs::Answer::is_complete(answer)
 use Rattle.jobs.specs.Jobs.{complete, says}
 use Rattle.jobs.specs.declared.Answer.{Answer}
 use Rattle.std.specs.Prelude.{Bool, ◌≡◌}

@@ -1,4 +1,4 @@
--- jobs::number(answer)
+-- jobs::Answer::number(answer)
 use Rattle.jobs.specs.Jobs.{says}
 use Rattle.jobs.specs.declared.Answer.{Answer}
 use Rattle.std.specs.Prelude.{ℕ, ◌≡◌}

@@ -1,12 +1,7 @@
-use native.Mathlib.Omega.{arith}
-use Rattle.header_writer.proofs.Framing.{made_header, put_header, no_header}
+use Rattle.std.proofs.Common.{arith}
+use Rattle.header_writer.proofs.Framing.{listed}
 use Rattle.header_writer.proofs.put_header.Goals as goal
 
 -- `put_header` meets its contract. Assumes nothing.
-pub returns-then-out-lt24 : goal.returns-then-out-lt24
-returns-then-out-lt24 c =
-    no_header c.args.out.now c.args.h (omega arith)
-
 pub returns : goal.returns
-returns c =
-    put_header c.args.h (omega arith) (made_header c.args.h c.put_format.ensures c.put_size.ensures)
+returns c = rw (c.put.ensures, listed c.args.h c.to_be_bytes.ensures c.to_be_bytes-2.ensures c.to_be_bytes-3.ensures c.to_be_bytes-4.ensures (omega arith) (omega arith) (omega arith) (omega arith))

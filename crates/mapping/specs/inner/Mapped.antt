@@ -1,5 +1,5 @@
 -- The mapped sample of every code that a base layer sample can have (5.4.2), as a table.
-use Rattle.std.specs.Prelude.{Bool, false, ◌&&◌, cond, List, ℕ, ◌*◌, ◌^◌, leb, ltb, eqb, ℤ, pos, nat_abs, get_or, replicate}
+use Rattle.std.specs.Prelude.{Bool, ◌&&◌, cond, List, ℕ, ◌*◌, ◌^◌, leb, ltb, eqb, ℤ, pos, nat_abs, get_or, Option, Some, None}
 use Rattle.runs.specs.inner.Loops.{at}
 use Rattle.runs.specs.inner.Tables.{table, coded}
 use Rattle.standard.specs.Mapping.{mapped}
@@ -9,7 +9,6 @@ use Rattle.plan.specs.declared.Component.{Component}
 use Rattle.plan.specs.Parameters.{mapping}
 use Rattle.plan.specs.Ranges.{bl_depth, count_fits, order_fits}
 use Rattle.plan.specs.Rule7.{every, pivot_places, pieces_used, no_piece}
-use Rattle.mapping.specs.declared.Mapped.{Mapped}
 
 -- what the mapping is computed with, and how large it may be, the same for every depth and d: less than rule 7 asks
 abbrev pub frame_maps : Header → ℕ → List ℕ → Bool
@@ -39,12 +38,6 @@ can_map h c = frame_maps h c.n c.preds && pieces_map c
 unfoldable pub mapped_table : Header → Component → List ℕ
 mapped_table h c = table 1024 (coded (can_map h c) (2 ^ bl_depth h) (mapped (bl_depth h) h.d (mapping c)))
 
--- the table, and whether there is one
-abbrev pub with_table : List ℕ → Bool → Mapped
-with_table entries maps = record { table = entries; maps = maps }
-
-abbrev pub not_mapped : Mapped
-not_mapped = with_table (replicate 1024 0) false
-
-abbrev pub answer : Header → Component → Mapped
-answer h c = with_table (mapped_table h c) (can_map h c)
+-- the table, where there is one
+abbrev pub answer : Header → Component → Option (List ℕ)
+answer h c = cond (can_map h c) (Some (mapped_table h c)) None

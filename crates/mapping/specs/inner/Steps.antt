@@ -1,32 +1,12 @@
 -- What the private functions of the mapping ask and give, and nothing that another crate cites.
-use Rattle.std.specs.Prelude.{◌≡◌, true, List, [], ◌∷◌, ℕ, ◌+◌, ◌-◌, ◌*◌, ◌^◌, ◌<◌, ◌≤◌, ℤ, pos, nat_abs, ◌+ℤ◌, ◌*ℤ◌, length, get_or}
+use Rattle.std.specs.Prelude.{true, List, ℕ, ◌+◌, ◌-◌, ◌*◌, ◌^◌, ◌<◌, ◌≤◌, ℤ, pos, nat_abs, ◌+ℤ◌, ◌*ℤ◌}
 use Rattle.runs.specs.inner.Loops.{at}
 use Rattle.runs.specs.inner.Tables.{table, coded}
 use Rattle.standard.specs.Mapping.{pivot_value, pivot_idx, clamped, poly_sum, cut}
-use Rattle.plan.specs.declared.Component.{Component}
 use Rattle.plan.specs.Ranges.{most_n}
-use Rattle.plan.specs.Rule7.{pivot_places, piece_places, pieces_used, no_piece}
-use Rattle.mapping.specs.inner.Mapped.{order_by}
-
-abbrev pub coef : List ℤ → ℕ → ℤ
-coef row i = get_or row i (pos 0)
-
--- the coefficients of a row that a polynomial can have, in four places
-abbrev pub kept : List ℤ → List ℤ
-kept row = coef row 0 ∷ coef row 1 ∷ coef row 2 ∷ pos 0 ∷ []
-
--- the row of piece p, among those that are kept
-abbrev pub row_of : List (List ℤ) → ℕ → List ℤ
-row_of rows p = get_or rows p []
-
--- the orders and the rows of the pieces up to p are copied
-pub record CopiedOrders (c : Component) (orders : List ℕ) (p : ℕ) : Type 0 where
-  pub long : length orders ≡ piece_places
-  pub order : (j : ℕ) → j < p → at orders j ≡ (let q = get_or c.pieces j no_piece in order_by q.idc q.order)
-
-pub record CopiedRows (c : Component) (rows : List (List ℤ)) (p : ℕ) : Type 0 where
-  pub long : length rows ≡ piece_places
-  pub row : (j : ℕ) → j < p → row_of rows j ≡ kept (get_or c.pieces j no_piece).row
+use Rattle.plan.specs.Rule7.{pivot_places, pieces_used}
+use Rattle.mapping.specs.declared.copies.Polynomial.{Polynomial}
+use Rattle.mapping.specs.inner.Copies.{coef, row_of}
 
 -- what a sample that is clamped comes to by one row
 abbrev pub by_row : ℕ → ℕ → List ℤ → ℕ → ℕ
@@ -54,20 +34,20 @@ pub record StretchGiven (depth d from to : ℕ) (row : List ℤ) : Type 0 where
   pub coefficient : (i : ℕ) → nat_abs (coef row i) ≤ 2 ^ 38
 
 -- the predictions of pivots and the rows of the pieces that are used, in the same bounds
-pub record ByRows (depth d n : ℕ) (preds : List ℕ) (rows : List (List ℤ)) : Type 0 where
+pub record ByRows (depth d n : ℕ) (preds : List ℕ) (polynomials : List Polynomial) : Type 0 where
   pub shallow : depth ≤ 10
   pub denominator : d ≤ 32
   pub count : n ≤ most_n
   pub pivot : (i : ℕ) → at preds i < 2 ^ depth
-  pub coefficient : (p i : ℕ) → p < pieces_used n → nat_abs (coef (row_of rows p) i) ≤ 2 ^ 38
+  pub coefficient : (p i : ℕ) → p < pieces_used n → nat_abs (coef (row_of polynomials p) i) ≤ 2 ^ 38
 
 -- a mapped sample by pivots that are summed up and rows of always three coefficients: one that the order does not use is 0
-unfoldable pub mapped_by : ℕ → ℕ → ℕ → List ℕ → List (List ℤ) → ℕ → ℕ
-mapped_by depth d n pivots rows s =
-    by_row depth d (row_of rows (pivot_idx (at pivots) n s)) (clamped (at pivots 0) (at pivots (n + 1)) s)
+unfoldable pub mapped_by : ℕ → ℕ → ℕ → List ℕ → List Polynomial → ℕ → ℕ
+mapped_by depth d n pivots polynomials s =
+    by_row depth d (row_of polynomials (pivot_idx (at pivots) n s)) (clamped (at pivots 0) (at pivots (n + 1)) s)
 
 abbrev pub pivots_by : List ℕ → List ℕ
 pivots_by preds = table pivot_places (pivot_value (at preds))
 
-abbrev pub table_by : ℕ → ℕ → ℕ → List ℕ → List (List ℤ) → List ℕ
-table_by depth d n preds rows = table 1024 (coded true (2 ^ depth) (mapped_by depth d n (pivots_by preds) rows))
+abbrev pub table_by : ℕ → ℕ → ℕ → List ℕ → List Polynomial → List ℕ
+table_by depth d n preds polynomials = table 1024 (coded true (2 ^ depth) (mapped_by depth d n (pivots_by preds) polynomials))

@@ -6,10 +6,6 @@ use Rattle.rules.specs.Rules.{rules, refusal}
 use Rattle.rules.proofs.refusal_of.Goals as goal
 
 -- `rules::refusal_of` meets its contract: rule 7, and then the others. Assumes nothing.
-pub returns-then-not-passes : goal.returns-then-not-passes
-unfolding refusal rules
-returns-then-not-passes c = rw (sym c.passes.ensures ∙ c.if-not-passes.true)
-
 pub returns : goal.returns
 unfolding refusal rules
 returns c =

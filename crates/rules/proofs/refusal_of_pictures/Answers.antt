@@ -1,34 +1,10 @@
 use mathlib.Core.Path.{sym, ◌∙◌}
-use native.Mathlib.Omega.{arith}
 use Rattle.plan.proofs.Facts.{header-kept}
 use Rattle.rules.proofs.Accepting.{sized, in_picture}
 use Rattle.rules.proofs.refusal_of_pictures.Goals as goal
 
 -- `rules::refusal_of_pictures` meets its contract: each test stands where the list has its rule. Assumes nothing.
-pub returns-then-not-header_fits : goal.returns-then-not-header_fits
-returns-then-not-header_fits c = rw (sym c.header_fits.ensures ∙ c.if-not-header_fits.true)
-
-pub returns-then-is_wrong_length : goal.returns-then-is_wrong_length
-returns-then-is_wrong_length c =
-    rw (sym c.header_fits.ensures ∙ c.if-not-header_fits.false, sym c.is_wrong_length.ensures ∙ c.if-is_wrong_length.true)
-
-pub returns-then-is_wrong_pairs : goal.returns-then-is_wrong_pairs
-returns-then-is_wrong_pairs c =
-    rw (sym c.header_fits.ensures ∙ c.if-not-header_fits.false, sym c.is_wrong_length.ensures ∙ c.if-is_wrong_length.false, sym c.is_wrong_pairs.ensures ∙ c.if-is_wrong_pairs.true)
-
-pub overflow_add-first : goal.overflow_add-first
-overflow_add-first c =
-    omega (arith, (sized _ _ _ _ _ _ (sym c.is_wrong_length.ensures ∙ c.if-is_wrong_length.false) (sym c.is_wrong_pairs.ensures ∙ c.if-is_wrong_pairs.false)).pairs, (header-kept _ (sym c.header_fits.ensures ∙ c.if-not-header_fits.false)).few_pairs)
-
 pub is_wrong_sample-requires : goal.is_wrong_sample-requires
 is_wrong_sample-requires c =
     let f = header-kept _ (sym c.header_fits.ensures ∙ c.if-not-header_fits.false) in
-    let z = sized c.args.h c.args.first c.args.count _ _ c.args.output (sym c.is_wrong_length.ensures ∙ c.if-is_wrong_length.false) (sym c.is_wrong_pairs.ensures ∙ c.if-is_wrong_pairs.false) in record { header_facts = (f, in_picture _ _ _ _ f z.pairs z.base_size); in_picture = λ on. in_picture _ _ _ _ f z.pairs (z.enhancement_size on) }
-
-pub returns-then-is_wrong_sample : goal.returns-then-is_wrong_sample
-returns-then-is_wrong_sample c =
-    rw (sym c.header_fits.ensures ∙ c.if-not-header_fits.false, sym c.is_wrong_length.ensures ∙ c.if-is_wrong_length.false, sym c.is_wrong_pairs.ensures ∙ c.if-is_wrong_pairs.false, sym c.is_wrong_sample.ensures ∙ c.if-is_wrong_sample.true)
-
-pub returns : goal.returns
-returns c =
-    rw (sym c.header_fits.ensures ∙ c.if-not-header_fits.false, sym c.is_wrong_length.ensures ∙ c.if-is_wrong_length.false, sym c.is_wrong_pairs.ensures ∙ c.if-is_wrong_pairs.false, sym c.is_wrong_sample.ensures ∙ c.if-is_wrong_sample.false)
+    let z = sized c.args.h c.args.work.first c.args.work.count _ _ c.args.output (sym c.is_wrong_length.ensures ∙ c.if-is_wrong_length.false) (sym c.is_wrong_pairs.ensures ∙ c.if-is_wrong_pairs.false) in record { header_facts = (f, in_picture _ _ _ _ f z.pairs z.base_size); in_picture = λ on. in_picture _ _ _ _ f z.pairs (z.enhancement_size on) }

@@ -1,5 +1,5 @@
 -- What the writer of a section leaves, whatever it is handed.
-use Rattle.std.specs.Prelude.{Bool, cond, ◌&&◌, List, ℕ, ◌+◌, ◌*◌, leb, ℤ, pos, length, get_or}
+use Rattle.std.specs.Prelude.{Bool, cond, ◌&&◌, List, Option, Some, None, ℕ, ◌+◌, ◌*◌, leb, ℤ, pos, length, get_or}
 use Rattle.plan.specs.declared.Component.{Component}
 use Rattle.plan.specs.Ranges.{count_fits}
 use Rattle.plan.specs.Rule7.{coefficients_used}
@@ -26,9 +26,9 @@ can_write d c = leb d 32 && count_fits c.n
 abbrev pub put_section : List ℕ → ℕ → ℕ → ℕ → Component → List ℕ
 put_section s at version d c = cond (can_write d c) (put_at s at (section_bytes version d c)) s
 
--- its length, where the version carries all of the component, and else 0
+-- its length, where the version carries all of the component
 abbrev pub has_section : ℕ → Component → Bool
 has_section version c = count_fits c.n && can_carry version c
 
-abbrev pub section_length : ℕ → Component → ℕ
-section_length version c = cond (has_section version c) (length (section_bytes version 0 c)) 0
+abbrev pub section_length : ℕ → Component → Option ℕ
+section_length version c = cond (has_section version c) (Some (length (section_bytes version 0 c))) None

@@ -5,6 +5,7 @@ use mathlib.Core.List.{List}
 use Prim.Native.Nat.{ℕ}
 use lib.ListN.{length}
 use native.Mathlib.Omega.{arith}
+use Rattle.std.proofs.lemmas.Result.{err_from_is_err_and}
 use Rattle.plan.specs.declared.Plan.{Plan}
 use Rattle.plan.proofs.Facts.{header_facts, header-passed, nlq_of, y_usable, cb_usable, cr_usable}
 use Rattle.rules.specs.Rules.{Given, given_table, used, refusal}
@@ -35,22 +36,23 @@ module _ (p : Plan) (t base enhancement output : List ℕ) (first count : ℕ) w
         code = e.code;
       }
 
-pub returns-then-number-ne0 : goal.returns-then-number-ne0
-returns-then-number-ne0 c =
+pub returns-in_err-refusal_of : goal.returns-in_err-refusal_of
+returns-in_err-refusal_of c =
     let a = c.args in
-    let e = refused (given_table a.plan a.table.now a.first a.count a.base.now a.enhancement.now) a.marks.now a.output.now _ c.refusal_of-number.ensures c.if-number-ne0.true in
-    record { answers = e.0; writes = e.1 }
+    let p = err_from_is_err_and c.from_residual.result c.from_residual.ensures.1 in
+    let e = refused (given_table a.plan a.table.now a.first a.count a.base.now a.enhancement.now) a.marks.now a.output.now _ c.in_err-refusal_of.ensures in
+    record { answers = rw (p.1, p.2) e.0; writes = e.1 }
 
 pub overflow_add-r : goal.overflow_add-r
 overflow_add-r c =
     let a = c.args in
-    let p = passed (given_table a.plan a.table.now a.first a.count a.base.now a.enhancement.now) (length a.output.now) (sym c.if-number-ne0.false ∙ c.refusal_of-number.ensures) in
+    let p = passed (given_table a.plan a.table.now a.first a.count a.base.now a.enhancement.now) (length a.output.now) c.in_ok-refusal_of.ensures in
     omega (arith, p.sizes.pairs, (header_facts _ p.fits).few_pairs)
 
 pub enhanced_planes-requires : goal.enhanced_planes-requires
 enhanced_planes-requires c =
     let a = c.args in
-    let z = sym c.if-number-ne0.false ∙ c.refusal_of-number.ensures in
+    let z = c.in_ok-refusal_of.ensures in
     record {
       lent = lent a.plan a.table.now a.base.now a.enhancement.now a.output.now a.first a.count z;
       enhanced = enhanced a.plan a.table.now a.base.now a.enhancement.now a.output.now a.first a.count z (sym c.is_used.ensures ∙ c.if-is_used.true);
@@ -60,7 +62,7 @@ pub returns-then-is_used : goal.returns-then-is_used
 returns-then-is_used c =
     let a = c.args in
     let g = given_table a.plan a.table.now a.first a.count a.base.now a.enhancement.now in
-    let z = sym c.if-number-ne0.false ∙ c.refusal_of-number.ensures in
+    let z = c.in_ok-refusal_of.ensures in
     let on = sym c.is_used.ensures ∙ c.if-is_used.true in
     let e = written g a.marks.now a.output.now _ _ _ z (λ k. all_named g a.marks.now k on) c.enhanced_planes.ensures
     (λ i. enhanced_composed a.plan a.table.now a.base.now a.enhancement.now i on) in
@@ -69,16 +71,13 @@ returns-then-is_used c =
 pub plain_planes-requires : goal.plain_planes-requires
 plain_planes-requires c =
     let a = c.args in
-    lent a.plan a.table.now a.base.now a.enhancement.now a.output.now a.first a.count (sym c.if-number-ne0.false ∙ c.refusal_of-number.ensures)
-
-pub slice_bounds-plain_planes-end : goal.slice_bounds-plain_planes-end
-slice_bounds-plain_planes-end c = c.marks_seen-seen.ensures.few
+    lent a.plan a.table.now a.base.now a.enhancement.now a.output.now a.first a.count c.in_ok-refusal_of.ensures
 
 pub returns : goal.returns
 returns c =
     let a = c.args in
     let g = given_table a.plan a.table.now a.first a.count a.base.now a.enhancement.now in
-    let z = sym c.if-number-ne0.false ∙ c.refusal_of-number.ensures in
+    let z = c.in_ok-refusal_of.ensures in
     let off = sym c.is_used.ensures ∙ c.if-is_used.false in
     let e = written g a.marks.now a.output.now _ _ _ z (λ k. kept_seen g a.marks.now k off _ c.marks_seen-seen.ensures.is) c.plain_planes.ensures
     (λ i. plain_composed a.plan a.table.now a.base.now a.enhancement.now i off) in

@@ -1,55 +1,32 @@
-use mathlib.Core.Path.{◌≡◌, sym, ◌∙◌}
-use Prim.Native.Nat.{◌≤◌}
-use native.Mathlib.Omega.{arith}
-use lib.ListN.{length}
-use mathlib.Core.Bool.{true}
+use Rattle.std.proofs.Common.{◌≡◌}
+use Rattle.refusals.specs.declared.Refusal.TheVariants.{Plan}
+use Rattle.std.proofs.lemmas.Result.{err_from_is_err_and}
 use Rattle.plan.proofs.Sizes.{sized}
-use Rattle.header_writer.proofs.Framing.{header_inked}
-use Rattle.writer.specs.Writing.{block, writable}
-use Rattle.writer.proofs.Answers.{bad_plan, no_block, has_block, refused_seven, refused_twelve, accepted}
-use Rattle.writer.proofs.Blocks.{its_length, y_carried, cb_carried, cr_carried, added_up, trailer_room, made_block}
+use Rattle.writer.proofs.Answers.{refused_seven, refused_twelve, accepted}
+use Rattle.writer.proofs.Blocks.{trailer_room, made_block}
 use Rattle.writer.proofs.write.Goals as goal
 
 -- `write` meets its contract. Assumes nothing.
-pub returns-then-not-passes : goal.returns-then-not-passes
-returns-then-not-passes c =
-    let r = refused_seven c.args.plan c.args.version c.args.out.now (bad_plan c.args.plan c.args.version (sym c.passes.ensures ∙ c.if-not-passes.true)) in
-    record { answers = r.0; writes = r.1; sized = sized c.args.plan _ c.well_formed.0 }
-
-pub returns-then-first-second : goal.returns-then-first-second
-returns-then-first-second c =
-    let r = refused_seven c.args.plan c.args.version c.args.out.now (no_block c.args.plan c.args.version c.section_length-first.ensures.0 c.section_length-second.ensures.0 c.section_length-third.ensures.0 c.if-first-second.true) in
-    record { answers = r.0; writes = r.1; sized = sized c.args.plan _ c.well_formed.0 }
+pub returns-in_err-lengths : goal.returns-in_err-lengths
+returns-in_err-lengths c =
+    let p = err_from_is_err_and c.from_residual.result c.from_residual.ensures.1 in
+    let r = refused_seven c.args.plan c.args.version c.args.out.now (rw c.in_err-lengths.ensures.ok_part at c.section_lengths.ensures) in
+    let told = rw c.in_err-lengths.ensures.ok_part at c.in_err-lengths.ensures.value in
+    let seven : c.in_err-lengths.field-0.0 ≡ Plan = cc in
+    rw (p.1, p.2, seven) (record { answers = r.0; writes = r.1; sized = sized c.args.plan _ c.well_formed.0 })
 
 pub returns-then-out-size : goal.returns-then-out-size
 returns-then-out-size c =
-    let writes : writable c.args.plan c.args.version ≡ true = has_block c.args.plan c.args.version c.section_length-first.ensures.0 c.section_length-second.ensures.0 c.section_length-third.ensures.0 (sym c.passes.ensures ∙ c.if-not-passes.false) c.if-first-second.false in
-    let sum = added_up c.args.plan c.args.version writes c.section_length-first.ensures.0 c.section_length-second.ensures.0 c.section_length-third.ensures.0 in
-    let r = refused_twelve c.args.plan c.args.version c.args.out.now writes (omega (arith, sum)) in
+    let r = refused_twelve c.args.plan c.args.version c.args.out.now (rw c.in_ok-lengths.ensures.ok_part at c.section_lengths.ensures) c.block-size.ensures c.if-out-size.true in
     record { answers = r.0; writes = r.1; sized = sized c.args.plan _ c.well_formed.0 }
 
 pub put_trailer-requires : goal.put_trailer-requires
 put_trailer-requires c =
-    let writes : writable c.args.plan c.args.version ≡ true = has_block c.args.plan c.args.version c.section_length-first.ensures.0 c.section_length-second.ensures.0 c.section_length-third.ensures.0 (sym c.passes.ensures ∙ c.if-not-passes.false) c.if-first-second.false in
-    let sum = added_up c.args.plan c.args.version writes c.section_length-first.ensures.0 c.section_length-second.ensures.0 c.section_length-third.ensures.0 in
-    let room : length (block c.args.plan c.args.version) ≤ length c.args.out.now = omega (arith, sum) in
-    let headed = header_inked c.args.plan.header (omega (arith, room, sum)) c.put_header.ensures in
-    let p = c.args.plan in
-    let n = c.args.version in
-    record {
-      first_bound = (
-        (its_length p n 0 (y_carried p n writes) c.section_length-first.ensures.0).1,
-        ((its_length p n 1 (cb_carried p n writes) c.section_length-second.ensures.0).1, (its_length p n 2 (cr_carried p n writes) c.section_length-third.ensures.0).1),
-      );
-      third_in_bounds = trailer_room p n writes c.section_length-first.ensures.0 c.section_length-second.ensures.0 c.section_length-third.ensures.0 room headed c.put_section.ensures c.put_section-2.ensures c.put_section-3.ensures;
-    }
+    trailer_room c.args.plan c.args.version (rw c.in_ok-lengths.ensures.ok_part at c.section_lengths.ensures) c.args.out.now (rw c.block-size.ensures at c.if-out-size.false) c.put_header.ensures c.put_section.ensures c.put_section-2.ensures c.put_section-3.ensures
 
 pub returns : goal.returns
 returns c =
-    let writes : writable c.args.plan c.args.version ≡ true = has_block c.args.plan c.args.version c.section_length-first.ensures.0 c.section_length-second.ensures.0 c.section_length-third.ensures.0 (sym c.passes.ensures ∙ c.if-not-passes.false) c.if-first-second.false in
-    let sum = added_up c.args.plan c.args.version writes c.section_length-first.ensures.0 c.section_length-second.ensures.0 c.section_length-third.ensures.0 in
-    let room : length (block c.args.plan c.args.version) ≤ length c.args.out.now = omega (arith, sum) in
-    let headed = header_inked c.args.plan.header (omega (arith, room, sum)) c.put_header.ensures in
-    let made = made_block c.args.plan c.args.version writes c.section_length-first.ensures.0 c.section_length-second.ensures.0 c.section_length-third.ensures.0 room headed c.put_section.ensures c.put_section-2.ensures c.put_section-3.ensures c.put_trailer.ensures in
-    let r = accepted c.args.plan c.args.version c.args.out.now writes room sum made in
+    let l = rw c.in_ok-lengths.ensures.ok_part at c.section_lengths.ensures in
+    let r = accepted c.args.plan c.args.version c.args.out.now l c.block-size.ensures c.if-out-size.false
+    (made_block c.args.plan c.args.version l c.args.out.now (rw c.block-size.ensures at c.if-out-size.false) c.put_header.ensures c.put_section.ensures c.put_section-2.ensures c.put_section-3.ensures c.put_trailer.ensures) in
     record { answers = r.0; writes = r.1; sized = sized c.args.plan _ c.well_formed.0 }

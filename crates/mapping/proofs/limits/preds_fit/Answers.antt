@@ -1,17 +1,9 @@
 use mathlib.Core.Path.{refl}
-use native.Mathlib.Omega.{arith}
-use Rattle.plan.proofs.Counting.{none, more, ended}
-use Rattle.plan.proofs.Shifting.{one_shifted}
+use Rattle.plan.proofs.Counting.{none, more}
 use Rattle.mapping.proofs.limits.preds_fit.Goals as goal
 
-pub loop-i-preserved : goal.loop-i-preserved
-loop-i-preserved c =
-    (omega arith, more _ c.loop-i.invariant.1 refl)
+pub loop-pred-init : goal.loop-pred-init
+loop-pred-init c = none _
 
-pub returns : goal.returns
-returns c =
-    rw (← one_shifted c.args.depth (omega arith)) (ended _ c.loop-i.invariant.0 c.loop-i-test.false c.loop-i.invariant.1)
-
-pub loop-i-init : goal.loop-i-init
-loop-i-init c =
-    (omega arith, none _)
+pub loop-pred-preserved : goal.loop-pred-preserved
+loop-pred-preserved c = more _ c.loop-pred.invariant (rw c.from.ensures refl)

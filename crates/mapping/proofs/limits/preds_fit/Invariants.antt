@@ -1,13 +1,9 @@
--- `mapping::limits::preds_fit` meets its contract: the tests so far are joined. Assumes nothing.
+-- the tests so far are joined
 use mathlib.Core.Path.{◌≡◌}
-use Prim.Native.Nat.{◌≤◌, ◌-◌}
 use lib.Dec.{ltb}
 use Rattle.runs.specs.inner.Loops.{at}
-use Rattle.plan.specs.Rule7.{every, pivot_places}
+use Rattle.plan.specs.Rule7.{every}
 use Rattle.mapping.proofs.limits.preds_fit.Given as goal
 
-abbrev pub invariant-loop-i : goal.invariant-loop-i
-invariant-loop-i l = (l.i ≤ pivot_places) × (l.fit ≡ every l.i (λ j. ltb (at l.preds j) l.codes))
-
-abbrev pub decreases-loop-i : goal.decreases-loop-i
-decreases-loop-i l = pivot_places - l.i
+abbrev pub invariant-loop-pred : goal.invariant-loop-pred
+invariant-loop-pred l = l.fit ≡ every l.pred-index (λ j. ltb (at l.preds j) l.codes)

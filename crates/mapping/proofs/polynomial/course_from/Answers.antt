@@ -8,7 +8,7 @@ use mir.Syntax.{w64}
 use mir.Val.{of_z}
 use mir.Facts.{to_z-of_z}
 use Rattle.words.proofs.Holding.{Holds, bounded, result, add, add_asked, mul, mul_asked}
-use Rattle.mapping.specs.inner.Steps.{coef}
+use Rattle.mapping.specs.inner.Copies.{coef}
 use Rattle.mapping.proofs.Differences.{unit_fits, two_fits, odd_fits}
 use Rattle.mapping.proofs.polynomial.course_from.Goals.{After-shifted-odd, After-shifted-two, After-shifted-unit, Start}
 use Rattle.mapping.proofs.polynomial.course_from.Goals as goal

@@ -6,7 +6,7 @@ use mir.Facts.{to_z-of_z}
 use Rattle.standard.specs.Mapping.{poly_sum}
 use Rattle.steps.specs.inner.Steps.{cut_by}
 use Rattle.steps.proofs.Small.{is_cut}
-use Rattle.mapping.specs.inner.Steps.{coef}
+use Rattle.mapping.specs.inner.Copies.{coef}
 use Rattle.mapping.proofs.polynomial.map_step.Goals as goal
 
 pub returns : goal.returns

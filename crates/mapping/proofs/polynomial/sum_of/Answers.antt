@@ -10,7 +10,7 @@ use mir.Val.{of_z}
 use Rattle.standard.proofs.Weights.{weight_le, weight_one, weight_two}
 use Rattle.standard.proofs.Polynomials.{three-terms}
 use Rattle.words.proofs.Holding.{Holds, bounded, result, literal, add, add_asked, mul, mul_asked}
-use Rattle.mapping.specs.inner.Steps.{coef}
+use Rattle.mapping.specs.inner.Copies.{coef}
 use Rattle.mapping.proofs.polynomial.sum_of.Goals.{After-shifted-linear, After-shifted-square, Start}
 use Rattle.mapping.proofs.polynomial.sum_of.Goals as goal
 

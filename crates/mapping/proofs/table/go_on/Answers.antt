@@ -15,7 +15,8 @@ use Rattle.standard.specs.Mapping.{poly_sum}
 use Rattle.steps.specs.inner.Steps.{cut_by}
 use Rattle.steps.proofs.Small.{is_cut}
 use Rattle.words.proofs.Holding.{Holds, bounded, add_asked}
-use Rattle.mapping.specs.inner.Steps.{coef, growth, bend, RowRanges}
+use Rattle.mapping.specs.inner.Copies.{coef}
+use Rattle.mapping.specs.inner.Steps.{growth, bend, RowRanges}
 use Rattle.mapping.proofs.Differences.{next_value, next_growth, sum_le, growth_le, bend_le}
 use Rattle.mapping.proofs.Held.{On}
 use Rattle.mapping.proofs.table.go_on.Goals.{After-course_from-course, In-loop-s, Start}
@@ -92,14 +93,6 @@ pub loop-s-init : goal.loop-s-init
 loop-s-init c =
     (c.requires.0.ordered, λ row on. (paint_none _ _ _, on))
 
-pub offset_bounds-table-s : goal.offset_bounds-table-s
-offset_bounds-table-s c =
-    omega (arith, c.loop-s-test, c.requires.0.codes, pow_mono {j = 10} c.requires.0.shallow)
-
-pub bounds-table-s : goal.bounds-table-s
-bounds-table-s c =
-    omega (arith, c.loop-s-test, c.requires.0.codes, pow_mono {j = 10} c.requires.0.shallow)
-
 pub overflow_add-value : goal.overflow_add-value
 overflow_add-value c =
     let il : In-loop-s = search rules in
@@ -110,6 +103,5 @@ overflow_add-growth c =
     let il : In-loop-s = search rules in
     add_asked (growth-held il) (bend-held il) tt
 
-pub overflow_add-s : goal.overflow_add-s
-overflow_add-s c =
-    omega (arith, c.loop-s-test)
+pub bounds-table-s : goal.bounds-table-s
+bounds-table-s c = omega (arith, c.loop-s-test, c.requires.0.codes, pow_mono {j = 10} c.requires.0.shallow)

@@ -1,20 +1,15 @@
-use mathlib.Core.Path.{refl}
+-- `mapping::table::hold` meets its contract: a part that is filled. Assumes nothing.
+use mathlib.Core.Bool.{true}
+use mathlib.Core.Path.{refl, ap, ◌∙◌}
+use Prim.Native.Nat.{◌-◌}
 use native.Mathlib.Omega.{arith}
-use Rattle.runs.proofs.Painting.{paint_none, paint_more, paint_part}
+use borrow.Rule.Slice.PartMut.{put_mid}
+use Rattle.runs.proofs.Parts.{part, painted-part}
+use Rattle.mapping.proofs.Held.{all_held}
 use Rattle.mapping.proofs.table.hold.Goals as goal
-
-pub loop-s-preserved : goal.loop-s-preserved
-loop-s-preserved c =
-    (omega arith, paint_more c.loop-s.invariant.1 (omega (arith, c.loop-s-test, c.requires.1, c.requires.2)) refl)
 
 pub returns : goal.returns
 returns c =
-    paint_part c.args.to c.loop-s.invariant.1 (omega (arith, c.loop-s.invariant.0))
-
-pub loop-s-init : goal.loop-s-init
-loop-s-init c =
-    (c.requires.0, paint_none _ _ _)
-
-pub bounds-table-s : goal.bounds-table-s
-bounds-table-s c =
-    omega (arith, c.requires.1, c.requires.2, c.loop-s.invariant.1.long)
+    let a = c.args in
+    ap (put_mid a.from (a.to - a.from) a.table.now) (c.fill.ensures.after (λ y e. e) ∙ all_held a.value (part a.from a.to a.table.now))
+    ∙ painted-part a.from a.to a.table.now c.requires.0 (omega arith) (λ j. true) (λ j. a.value) (λ j. a.value) (λ j b. refl) (λ j b. refl)

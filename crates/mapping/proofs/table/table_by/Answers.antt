@@ -11,7 +11,8 @@ use Rattle.runs.proofs.Tables.{Filled, fill_none, fill_painted, fill_codes}
 use Rattle.plan.specs.Rule7.{pieces_used}
 use Rattle.plan.proofs.Shifting.{one_shifted}
 use Rattle.steps.proofs.Small.{pivots_small}
-use Rattle.mapping.specs.inner.Steps.{row_of, by_row, RowRanges, mapped_by, pivots_by, table_by}
+use Rattle.mapping.specs.inner.Copies.{row_of}
+use Rattle.mapping.specs.inner.Steps.{by_row, RowRanges, mapped_by, pivots_by, table_by}
 use Rattle.mapping.proofs.InOrder.{lowest, rises, below_first, in_piece, from_last}
 use Rattle.mapping.proofs.table.table_by.Goals.{After-clamp-end, After-loop-p, After-pivots_of-pivots, In-loop-p, Start, Then-s-codes}
 use Rattle.mapping.proofs.table.table_by.Goals as goal
@@ -45,7 +46,7 @@ low : (v : After-pivots_of-pivots) → at v.pivots_of-pivots.result 0 < 2 ^ v.ar
 low v = omega (arith, lowest v.args.preds (made v), v.requires.pivot 0)
 
 -- what the mapping step asks, of the row of any piece that is used
-ranges : (v : After-pivots_of-pivots) (s p : ℕ) → let a = v.args in p < pieces_used a.n → s ≤ 2 ^ a.depth → (a.d ≤ 32) × RowRanges a.depth s (row_of a.rows p)
+ranges : (v : After-pivots_of-pivots) (s p : ℕ) → let a = v.args in p < pieces_used a.n → s ≤ 2 ^ a.depth → (a.d ≤ 32) × RowRanges a.depth s (row_of a.polynomials.now p)
 ranges v s p k b =
     (v.requires.denominator, record { shallow = v.requires.shallow; sample = b; coefficient = λ i. v.requires.coefficient p i k })
 
@@ -53,12 +54,9 @@ pub loop-p-init : goal.loop-p-init
 loop-p-init c =
     let v : After-pivots_of-pivots = search rules in
     let a = c.args in (
-      omega arith,
-      (
-        omega (arith, low v, all (start v)),
-        fill_painted _ (fill_none 1024 _ 0 (λ j h. absurd (omega arith))) (omega arith) (omega (arith, low v, few (start v))) c.hold.ensures
-            (λ j x y. c.map_step.ensures ∙ below_first a.preds (made v) a.depth a.d a.n a.rows c.requires.count j y),
-      ),
+      omega (arith, low v, all (start v)),
+      fill_painted _ (fill_none 1024 _ 0 (λ j h. absurd (omega arith))) (omega arith) (omega (arith, low v, few (start v))) c.hold.ensures
+          (λ j x y. c.map_step.ensures ∙ below_first a.preds (made v) a.depth a.d a.n a.polynomials.now c.requires.count j y),
     )
 
 -- a piece goes from where the one before it ended to its next pivot, or to the codes' end
@@ -67,7 +65,7 @@ ends e =
     let il = inside e in
     let v = turn il in
     let p = e.loop-p.p in (
-      omega (arith, e.clamp-end.ensures, e.loop-p.invariant.1.0, rises e.args.preds (made v) p (p + 1) (omega arith) (omega (arith, e.loop-p-test, e.requires.count))),
+      omega (arith, e.clamp-end.ensures, e.loop-p.invariant.0, rises e.args.preds (made v) p (p + 1) (omega arith) (omega (arith, e.loop-p-test, e.requires.count))),
       omega (arith, e.clamp-end.ensures, all (start v)),
     )
 
@@ -82,7 +80,7 @@ go_on-requires c =
         codes = (ends e).1;
         coefficient = λ i. g.coefficient c.loop-p.p i (omega (arith, c.loop-p-test));
       },
-      c.loop-p.invariant.1.1.long,
+      c.loop-p.invariant.1.long,
     )
 
 pub loop-p-preserved : goal.loop-p-preserved
@@ -93,12 +91,9 @@ loop-p-preserved c =
     let st = start v in
     let a = c.args in
     let l = c.loop-p in (
-      omega (arith, c.loop-p-test),
-      (
-        omega (arith, c.clamp-end.ensures),
-        fill_painted _ l.invariant.1.1 (ends e).0 (omega (arith, (ends e).1, few st)) c.go_on.ensures
-            (λ j x y. in_piece a.preds (made v) a.depth a.d a.n a.rows c.requires.count l.p j (omega (arith, c.loop-p-test)) (omega (arith, l.invariant.1.0, c.clamp-end.ensures)) (omega (arith, c.clamp-end.ensures))),
-      ),
+      omega (arith, c.clamp-end.ensures),
+      fill_painted _ l.invariant.1 (ends e).0 (omega (arith, (ends e).1, few st)) c.go_on.ensures
+          (λ j x y. in_piece a.preds (made v) a.depth a.d a.n a.polynomials.now c.requires.count l.p j (omega (arith, c.loop-p-test)) (omega (arith, l.invariant.0, c.clamp-end.ensures)) (omega (arith, c.clamp-end.ensures))),
     )
 
 -- all pieces have their codes, up to the last pivot or all there are
@@ -106,15 +101,15 @@ reached : (c : After-loop-p) → let v = before c in c.loop-p.s ≡ min (at c.pi
 reached c =
     let v = before c in
     let l = c.loop-p in
-    let e : l.p ≡ c.args.n + 1 = omega (arith, c.loop-p-test, l.invariant.0) in
-    let same : l.s ≡ min (at c.pivots_of-pivots.result l.p) (2 ^ c.args.depth) = omega (arith, l.invariant.1.0, all (start v)) in
+    let e : l.p ≡ c.args.n + 1 = omega (arith, c.loop-p-test) in
+    let same : l.s ≡ min (at c.pivots_of-pivots.result l.p) (2 ^ c.args.depth) = omega (arith, l.invariant.0, all (start v)) in
     same ∙ ap (λ (p : ℕ). min (at c.pivots_of-pivots.result p) (2 ^ c.args.depth)) e
 
 -- the table, filled as far as there are codes
-filled : (v : After-pivots_of-pivots) {i : ℕ} {table : List ℕ} → let a = v.args in i ≡ 2 ^ a.depth → Filled 1024 (mapped_by a.depth a.d a.n v.pivots_of-pivots.result a.rows) i table → table ≡ table_by a.depth a.d a.n a.preds a.rows
+filled : (v : After-pivots_of-pivots) {i : ℕ} {table : List ℕ} → let a = v.args in i ≡ 2 ^ a.depth → Filled 1024 (mapped_by a.depth a.d a.n v.pivots_of-pivots.result a.polynomials.now) i table → table ≡ table_by a.depth a.d a.n a.preds a.polynomials.now
 filled v e h =
     let a = v.args in
-    fill_codes _ refl e h (λ j. ap (λ (l : List ℕ). mapped_by a.depth a.d a.n l a.rows j) (made v))
+    fill_codes _ refl e h (λ j. ap (λ (l : List ℕ). mapped_by a.depth a.d a.n l a.polynomials.now j) (made v))
 
 abbrev passed : Then-s-codes → After-loop-p
 passed t = search rules
@@ -131,15 +126,15 @@ returns-then-s-codes c =
     let a = v.args in
     let l = c.loop-p in
     filled v (all st)
-    (fill_painted _ l.invariant.1.1 (omega (arith, c.if-s-codes.true)) (omega (arith, all st, few st)) c.hold-then-s-codes.ensures
-    (λ j x y. c.map_step-then-s-codes.ensures ∙ ap (by_row a.depth a.d (row_of a.rows (a.n + 1))) (last_is t)
-    ∙ from_last a.preds (made v) a.depth a.d a.n a.rows v.requires.count j (omega (arith, last_is t))))
+    (fill_painted _ l.invariant.1 (omega (arith, c.if-s-codes.true)) (omega (arith, all st, few st)) c.hold-then-s-codes.ensures
+    (λ j x y. c.map_step-then-s-codes.ensures ∙ ap (by_row a.depth a.d (row_of a.polynomials.now (a.n + 1))) (last_is t)
+    ∙ from_last a.preds (made v) a.depth a.d a.n a.polynomials.now v.requires.count j (omega (arith, last_is t))))
 
 pub returns-else-s-codes : goal.returns-else-s-codes
 returns-else-s-codes c =
     let p : After-loop-p = search rules in
     let v = before p in
-    filled v (omega (arith, reached p, c.if-s-codes.false, all (start v))) c.loop-p.invariant.1.1
+    filled v (omega (arith, reached p, c.if-s-codes.false, all (start v))) c.loop-p.invariant.1
 
 pub overflow_shl-codes : goal.overflow_shl-codes
 overflow_shl-codes c =
@@ -159,46 +154,6 @@ hold-requires c =
     let v : After-pivots_of-pivots = search rules in
     (omega arith, omega (arith, low v, few (start v)), length-replicate {A = ℕ} 1024 0)
 
-pub overflow_add-p : goal.overflow_add-p
-overflow_add-p c =
-    omega (arith, c.loop-p-test, c.requires.count)
-
-pub offset_bounds-pivots-p : goal.offset_bounds-pivots-p
-offset_bounds-pivots-p c =
-    omega (arith, c.loop-p-test, c.requires.count)
-
-pub bounds-pivots-p : goal.bounds-pivots-p
-bounds-pivots-p c =
-    omega (arith, c.loop-p-test, c.requires.count)
-
-pub offset_bounds-rows-p : goal.offset_bounds-rows-p
-offset_bounds-rows-p c =
-    omega (arith, c.loop-p-test, c.requires.count)
-
-pub bounds-rows-p : goal.bounds-rows-p
-bounds-rows-p c =
-    omega (arith, c.loop-p-test, c.requires.count)
-
-pub overflow_add-p-in-loop-p : goal.overflow_add-p-in-loop-p
-overflow_add-p-in-loop-p c =
-    omega (arith, c.loop-p-test, c.requires.count)
-
-pub loop-p-smaller : goal.loop-p-smaller
-loop-p-smaller c =
-    omega (arith, c.loop-p-test)
-
-pub overflow_add-highest : goal.overflow_add-highest
-overflow_add-highest c =
-    omega (arith, c.requires.count)
-
-pub offset_bounds-rows-n : goal.offset_bounds-rows-n
-offset_bounds-rows-n c =
-    omega (arith, c.requires.count)
-
-pub bounds-rows-n : goal.bounds-rows-n
-bounds-rows-n c =
-    omega (arith, c.requires.count)
-
 pub map_step-requires-then-s-codes : goal.map_step-requires-then-s-codes
 map_step-requires-then-s-codes c =
     let t : Then-s-codes = search rules in let r = ranges (before (passed t)) _ _ (omega arith) (omega (arith, c.if-s-codes.true, all (start (before (passed t))))) in record { d_bound = r.0; row_ranges = r.1 }
@@ -206,4 +161,4 @@ map_step-requires-then-s-codes c =
 pub hold-requires-then-s-codes : goal.hold-requires-then-s-codes
 hold-requires-then-s-codes c =
     let t : Then-s-codes = search rules in
-    (omega (arith, c.if-s-codes.true), omega (arith, all (start (before (passed t))), few (start (before (passed t)))), c.loop-p.invariant.1.1.long)
+    (omega (arith, c.if-s-codes.true), omega (arith, all (start (before (passed t))), few (start (before (passed t)))), c.loop-p.invariant.1.long)

@@ -1,15 +1,12 @@
-use native.Mathlib.Omega.{arith}
+use Rattle.std.proofs.Common.{arith}
+use Rattle.pen.proofs.Putting.{one_byte, four_bytes}
 use Rattle.pen.proofs.fixed.put_integer.Goals as goal
 
 -- `put_integer` meets its contract. Assumes nothing.
 pub returns-then-long : goal.returns-then-long
 returns-then-long c =
-    rw c.if-long.true c.four.ensures
+    rw (c.put.ensures, c.to_be_bytes.ensures, c.if-long.true, four_bytes c.args.v (omega arith))
 
-pub overflow_cast-v : goal.overflow_cast-v
-overflow_cast-v c =
-    record { fits = omega (arith, rw c.if-long.false at c.requires) }
-
-pub returns : goal.returns
-returns c =
-    rw c.if-long.false c.one.ensures
+pub returns-else-long : goal.returns-else-long
+returns-else-long c =
+    rw (c.put-else-long.ensures, c.if-long.false, one_byte c.args.v)

@@ -69,12 +69,9 @@ pub loop-e-init : goal.loop-e-init
 loop-e-init c =
     let a = c.args in
     let d = c.distance in (
-      c.requires.0.ordered,
-      (
-        paint_none _ _ _,
-        read_back c.scale-dq.result c.scale-dq.type_inv ∙ c.scale-dq.ensures
-            ∙ ap (λ (z : ℤ). scaled a.el a.q.slope a.q.threshold z (to_z w64 (of_z w64 a.sign))) (read_back d.result d.type_inv ∙ d.ensures.is),
-      ),
+      paint_none _ _ _,
+      read_back c.scale-dq.result c.scale-dq.type_inv ∙ c.scale-dq.ensures
+          ∙ ap (λ (z : ℤ). scaled a.el a.q.slope a.q.threshold z (to_z w64 (of_z w64 a.sign))) (read_back d.result d.type_inv ∙ d.ensures.is),
     )
 
 pub raised_by-requires : goal.raised_by-requires
@@ -85,36 +82,27 @@ raised_by-requires c =
       out_depth = s.out_depth;
       divided = divided s;
       limit = le_trans (le_of_eq (ap nat_abs c.most_of-most.ensures)) (limit_le a.el a.d s.ranges.shallow s.ranges.deep a.q.maximum s.ranges.maximum);
-      near = rw (c.loop-e.invariant.1.1 ∙ signed s c.loop-e.e (to_z-of_z c.ranges.sign)) (near s c.loop-e.e c.loop-e-test.true);
+      near = rw (c.loop-e.invariant.1 ∙ signed s c.loop-e.e (to_z-of_z c.ranges.sign)) (near s c.loop-e.e c.loop-e-test.true);
     }
 
 pub loop-e-preserved : goal.loop-e-preserved
 loop-e-preserved c =
     let a = c.args in
     let s = c.requires.0 in
-    let p = c.loop-e.invariant.1.0 in
-    let is = c.loop-e.invariant.1.1 ∙ signed s c.loop-e.e (to_z-of_z c.ranges.sign) in
+    let p = c.loop-e.invariant.0 in
+    let is = c.loop-e.invariant.1 ∙ signed s c.loop-e.e (to_z-of_z c.ranges.sign) in
     let even = result c.growth-even.type_inv c.growth-even.ensures.low in (
-      omega arith,
-      (
-        paint_more p (omega (arith, s.codes, c.requires.1))
-            (c.raised_by.ensures ∙ ap (raised_by a.out (a.d - 5 - a.el) (pos c.most_of-most.result)) is ∙ comes s c.most_of-most.ensures c.loop-e.e p.from c.loop-e-test.true),
-        to_z-of_z (add_asked (now_held s c.loop-e.e c.loop-e-test.true is) even tt) ∙ ap (λ (z : ℤ). z +ℤ to_z w64 (of_z w64 c.growth-even.result)) is ∙ next s even c.growth-even.ensures.is c.loop-e.e ∙ sym (signed s (c.loop-e.e + 1) (to_z-of_z c.ranges.sign)),
-      ),
+      paint_more p (omega (arith, s.codes, c.requires.1))
+          (c.raised_by.ensures ∙ ap (raised_by a.out (a.d - 5 - a.el) (pos c.most_of-most.result)) is ∙ comes s c.most_of-most.ensures c.loop-e.e p.from c.loop-e-test.true),
+      to_z-of_z (add_asked (now_held s c.loop-e.e c.loop-e-test.true is) even tt) ∙ ap (λ (z : ℤ). z +ℤ to_z w64 (of_z w64 c.growth-even.result)) is ∙ next s even c.growth-even.ensures.is c.loop-e.e ∙ sym (signed s (c.loop-e.e + 1) (to_z-of_z c.ranges.sign)),
     )
 
 pub returns : goal.returns
-returns c = paint_part c.args.to c.loop-e.invariant.1.0 (omega arith)
-
-pub offset_bounds-table-e : goal.offset_bounds-table-e
-offset_bounds-table-e c = omega (arith, c.requires.0.codes)
+returns c = paint_part c.args.to c.loop-e.invariant.0 (omega arith)
 
 pub bounds-table-e : goal.bounds-table-e
 bounds-table-e c = omega (arith, c.requires.0.codes)
 
 pub overflow_add-dq : goal.overflow_add-dq
 overflow_add-dq c =
-    add_asked (now_held c.requires.0 c.loop-e.e c.loop-e-test.true (c.loop-e.invariant.1.1 ∙ signed c.requires.0 c.loop-e.e (to_z-of_z c.ranges.sign))) (result {x = c.growth-even.result} c.growth-even.type_inv c.growth-even.ensures.low) tt
-
-pub overflow_add-e : goal.overflow_add-e
-overflow_add-e c = omega (arith, c.requires.0.codes)
+    add_asked (now_held c.requires.0 c.loop-e.e c.loop-e-test.true (c.loop-e.invariant.1 ∙ signed c.requires.0 c.loop-e.e (to_z-of_z c.ranges.sign))) (result {x = c.growth-even.result} c.growth-even.type_inv c.growth-even.ensures.low) tt

@@ -1,6 +1,5 @@
 -- The codes so far are painted, and the word holds the scaled distance of the next one. Assumes nothing.
 use mathlib.Core.Path.{◌≡◌}
-use Prim.Native.Nat.{◌-◌, ◌≤◌}
 use Rattle.runs.proofs.Painting.{PaintedFrom}
 use Rattle.residual.specs.inner.Steps.{raised_code}
 use Rattle.residual.proofs.Courses.{course}
@@ -8,7 +7,4 @@ use Rattle.residual.proofs.growing.go_on.Given as goal
 
 abbrev pub invariant-loop-e : goal.invariant-loop-e
 invariant-loop-e l =
-    (l.e ≤ l.to) × (PaintedFrom l.fn.from (raised_code l.fn.out l.fn.el l.fn.d l.fn.q) l.initial.table l.e l.table × (l.dq ≡ course l.fn.el l.fn.q l.fn.sign l.e))
-
-abbrev pub decreases-loop-e : goal.decreases-loop-e
-decreases-loop-e l = l.to - l.e
+    PaintedFrom l.fn.from (raised_code l.fn.out l.fn.el l.fn.d l.fn.q) l.initial.table l.e l.table × (l.dq ≡ course l.fn.el l.fn.q l.fn.sign l.e)

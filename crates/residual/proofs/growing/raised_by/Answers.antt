@@ -36,7 +36,7 @@ returns c =
     let b = begun c in
     let a = c.args in
     let x = ap (λ (z : ℤ). from_zero (z +ℤ pos c.power-far.result) / 2 ^ a.shift) (to_z-of_z c.ranges.dq) in
-    raised-after a.shift a.most c.requires.limit a.out a.dq (far_is b) c.power.ensures (c.lifted.ensures ∙ x) c.held.ensures
+    raised-after a.shift a.most c.requires.limit a.out a.dq (far_is b) c.power.ensures (c.lifted.ensures ∙ x) (rw c.min.ensures at c.max-held.ensures)
 
 pub overflow_add-high : goal.overflow_add-high
 overflow_add-high c =
@@ -48,11 +48,13 @@ overflow_sub-low c =
 
 pub overflow_cast-low-2 : goal.overflow_cast-low-2
 overflow_cast-low-2 c =
-    record { fits = omega (arith, high c, shr_mono {a = c.power-far.result - c.args.most} {b = c.power-far.result + c.args.most} c.args.shift (omega arith)) }
+    let b : After-power-far = search rules in
+    record { fits = omega (arith, high b, shr_mono {a = c.power-far.result - c.args.most} {b = c.power-far.result + c.args.most} c.args.shift (omega arith)) }
 
 pub overflow_cast-high-2 : goal.overflow_cast-high-2
 overflow_cast-high-2 c =
-    record { fits = omega (arith, high c) }
+    let b : After-power-far = search rules in
+    record { fits = omega (arith, high b) }
 
 pub lifted-requires : goal.lifted-requires
 lifted-requires c =
@@ -68,4 +70,4 @@ overflow_sub-result-2 c =
 
 pub overflow_sub-result-3 : goal.overflow_sub-result-3
 overflow_sub-result-3 c =
-    omega (arith, c.held.ensures, low (begun c))
+    omega (arith, c.max-held.ensures, low (begun c))

@@ -48,7 +48,8 @@ module _ (used : ℕ) (few : used ≤ 3) (fits zeros : ℕ → Bool) where
 pub returns : goal.returns
 unfolding row_fits
 returns c =
+    let row = c.args.row.now in
     ap₂ ◌&&◌ (rw (back c.coefficient_place-arg-1.given) at c.coefficient_place-first.ensures)
     (ap₂ ◌&&◌ (rw (back c.coefficient_place-arg-2-1.given) at c.coefficient_place-second.ensures)
     (ap₂ ◌&&◌ (rw (back c.coefficient_place-arg-3-1.given) at c.coefficient_place-third.ensures) c.rest_is_zero.ensures))
-    ∙ few_fit c.args.used c.requires.1 (λ j. coefficient_fits c.args.h c.args.idc (get_or c.args.row j (pos 0))) (λ j. is_zero (get_or c.args.row j (pos 0)))
+    ∙ few_fit c.args.used c.requires (λ j. coefficient_fits c.args.h.header c.args.idc (get_or row j (pos 0))) (λ j. is_zero (get_or row j (pos 0)))

@@ -1,16 +1,22 @@
+use mathlib.Core.Path.{ap, ◌∙◌}
+use Prim.Native.Nat.{◌<◌}
 use native.Mathlib.Omega.{arith}
-use Rattle.plan.proofs.Counting.{none, more, ended}
+use lib.IntN.{pos}
+use lib.ListN.{drop}
+use Rattle.std.proofs.lemmas.List.{get_or-drop, get_or-take, length-take}
+use Rattle.plan.specs.Rule7.{is_zero}
+use Rattle.plan.proofs.Counting.{none, more}
 use Rattle.plan.proofs.Testing.{back}
 use Rattle.rule_seven.proofs.places.rest_is_zero.Goals as goal
 
-pub loop-j-preserved : goal.loop-j-preserved
-loop-j-preserved c =
-    (omega arith, more _ c.loop-j.invariant.1 (rw (back c.is_zero-arg-1.given) at c.is_zero-zero.ensures))
+pub loop-z-init : goal.loop-z-init
+loop-z-init c = none _
 
-pub returns : goal.returns
-returns c =
-    ended _ c.loop-j.invariant.0 c.loop-j-test.false c.loop-j.invariant.1
-
-pub loop-j-init : goal.loop-j-init
-loop-j-init c =
-    (omega arith, none _)
+pub loop-z-preserved : goal.loop-z-preserved
+loop-z-preserved c =
+    let rest = drop 3 c.args.row.now in
+    let at = length-take 19 rest in
+    let inside : c.loop-z.z-index < 19 = omega arith in
+    more _ c.loop-z.invariant
+    (c.is_zero-zero.ensures
+    ∙ ap is_zero (back c.is_zero-arg-1.given ∙ get_or-take 19 rest c.loop-z.z-index (pos 0) inside ∙ get_or-drop 3 c.args.row.now c.loop-z.z-index (pos 0)))

@@ -21,3 +21,7 @@ pub returns : goal.returns
 returns c =
     with_enhancement c.args.h _ _ _ _ _ c.extent_of-e.ensures _ _ c.large_in_picture-large.ensures c.large_in_picture.ensures
     (sym c.is_used.ensures ∙ c.if-not-is_used.false)
+
+pub overflow_add-last : goal.overflow_add-last
+overflow_add-last c =
+    omega (arith, c.requires.header_facts.1.within, c.requires.header_facts.0.few_pairs)

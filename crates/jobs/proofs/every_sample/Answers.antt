@@ -1,5 +1,0 @@
-use Rattle.jobs.proofs.Samples.{every-sample}
-use Rattle.jobs.proofs.every_sample.Goals as goal
-
-pub returns : goal.returns
-returns c = every-sample
