@@ -25,10 +25,7 @@ overflow_cast-q c = let h = cast_fits c.args.v c.ranges.v (less (pos 0) c.ranges
 found : (e : Else-v-lt0) → from_zero e.args.v ≡ nat_abs (to_z w64 (of_z w64 e.args.v))
 found e = not_below_zero e.args.v (less (pos 0) e.ranges.v e.if-v-lt0.false) ∙ sym (ap nat_abs (to_z-of_z e.ranges.v))
 
-pub returns-then-q-gt65535 : goal.returns-then-q-gt65535
-returns-then-q-gt65535 c = let e : Else-v-lt0 = search rules in
-    rw (found e) (omega arith)
-
 pub returns : goal.returns
-returns c = let e : Else-v-lt0 = search rules in
-    rw (found e) (omega arith)
+returns c =
+    let e : Else-v-lt0 = search rules in
+    rw (found e, ← c.from.ensures) c.min.ensures
