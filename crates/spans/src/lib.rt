@@ -4,17 +4,10 @@
 
 pub mod apart; // stretches that stand apart, in step
 
-ghost use Rattle.std.specs.Prelude.{◌≡◌, ◌+◌, ◌<◌, ◌≤◌, min, length};
+ghost use Rattle.std.specs.Prelude.{◌≡◌, ◌+◌, ◌<◌, ◌≤◌, length};
 ghost use Rattle.runs.specs.Runs.{painted, between};
 ghost use Rattle.runs.specs.inner.Loops.{below};
-ghost use Rattle.spans.specs.inner.Spans.{entry, looked_up, four, put_four, Given, Joins, places_of_six, joined_six};
-
-// The lesser of two lengths.
-pub fn least(a: usize, b: usize) -> usize
-    ensures { result ≡ min a b }
-{
-    if a < b { a } else { b }
-}
+ghost use Rattle.spans.specs.inner.Spans.{entry, looked_up, four, put_four, Given, Joins, joined_six};
 
 fn looked_up(table: &[u16; 1024], base: &[u16], i: usize) -> u16
     requires { i < length base.now }
@@ -88,28 +81,14 @@ fn look_up_eight(table: &[u16; 1024], base: &[u16], i: usize, output: &mut [u16]
 pub fn look_up(table: &[u16; 1024], base: &[u16], output: &mut [u16])
     ensures { output.new ≡ painted (below (length base.now)) (looked_up table.now base.now) output.old }
 {
-    let n = least(base.len(), output.len());
+    let n = base.len().min(output.len());
     let turns = n / 8;
-    let mut t = 0;
-    while t < turns {
+    for t in 0..turns {
         look_up_eight(table, base, 8 * t, output);
-        t += 1;
     }
-    let mut i = 8 * turns;
-    while i < n {
+    for i in 8 * turns..n {
         output[i] = looked_up(table, base, i);
-        i += 1;
     }
-}
-
-// How many places all of six runs have.
-fn places_of_six(a: &[u16], b: &[u16], c: &[u16], d: &[u16], e: &[u16], f: &[u16]) -> usize
-    ensures { result ≡ places_of_six a.now b.now c.now d.now e.now f.now }
-{
-    least(
-        least(a.len(), b.len()),
-        least(least(c.len(), d.len()), least(e.len(), f.len())),
-    )
 }
 
 // Every bit that some sample of six runs has: whether one reaches a power of two. Six runs in step are loaded faster
@@ -117,12 +96,13 @@ fn places_of_six(a: &[u16], b: &[u16], c: &[u16], d: &[u16], e: &[u16], f: &[u16
 pub fn joined_six(a: &[u16], b: &[u16], c: &[u16], d: &[u16], e: &[u16], f: &[u16]) -> u16
     ensures { result ≡ joined_six a.now b.now c.now d.now e.now f.now }
 {
-    let n = places_of_six(a, b, c, d, e, f);
+    let first = a.len().min(b.len());
+    let second = c.len().min(d.len());
+    let third = e.len().min(f.len());
+    let n = first.min(second.min(third));
     let mut bits: u16 = 0;
-    let mut i = 0;
-    while i < n {
-        bits = bits | ((a[i] | b[i]) | ((c[i] | d[i]) | (e[i] | f[i])));
-        i += 1;
+    for i in 0..n {
+        bits |= (a[i] | b[i]) | ((c[i] | d[i]) | (e[i] | f[i]));
     }
     bits
 }
