@@ -1,8 +1,8 @@
 use native.Mathlib.Omega.{arith}
 use Rattle.sums.specs.inner.Sums.{summed}
-use Rattle.sums.proofs.entries.summed.Goals as goal
+use Rattle.sums.proofs.Tables.summed.Goals as goal
 
--- `sums::entries::summed` meets its contract. Assumes nothing.
+-- `sums::Tables::summed` meets its contract. Assumes nothing.
 pub returns : goal.returns
 unfolding summed
 returns c = c.sum_of.ensures
