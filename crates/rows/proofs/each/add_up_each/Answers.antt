@@ -10,18 +10,18 @@ use Rattle.rows.proofs.each.add_up_each.Goals as goal
 
 pub loop-k-init : goal.loop-k-init
 loop-k-init c =
-    (omega arith, (c.requires.0.forward, rows_begun _ _ _ _ (λ j. between_empty _ j)), search rules)
+    record { rows = rows_begun _ _ _ _ (λ j. between_empty _ j); places = search rules }
 
 pub add_up_row-requires : goal.add_up_row-requires
-add_up_row-requires c = record { in_plane = (row_of _ _ _ _ c.requires.0 _ c.loop-k-test.true, (row_of _ _ _ _ c.requires.1.0 _ c.loop-k-test.true, row_of_painted _ _ _ _ _ _ _ c.requires.1.1 c.loop-k.invariant.1.1 _ c.loop-k-test.true)); sums_len = c.loop-k.invariant.2 }
+add_up_row-requires c = record { in_plane = (row_of _ _ _ _ c.requires.0 _ c.loop-k-test.true, (row_of _ _ _ _ c.requires.1.0 _ c.loop-k-test.true, row_of_painted _ _ _ _ _ _ _ c.requires.1.1 c.loop-k.invariant.rows _ c.loop-k-test.true)); sums_len = c.loop-k.invariant.places }
 
 pub loop-k-preserved : goal.loop-k-preserved
 loop-k-preserved c =
-    (omega arith, (omega arith, rows_on _ _ _ _ _ _ c.loop-k.invariant.1.1 _ _ c.requires.0.some_columns (λ j. sym (between_more _ _ j c.loop-k.invariant.0)) c.add_up_row.ensures.adds), c.add_up_row.ensures.places)
+    record { rows = rows_on _ _ _ _ _ _ c.loop-k.invariant.rows _ _ c.requires.0.some_columns (λ j. sym (between_more _ _ j (omega arith))) c.add_up_row.ensures.adds; places = c.add_up_row.ensures.places }
 
 pub shape_of-output : goal.shape_of-output
-shape_of-output c = ap length c.loop-k.invariant.1.1 ∙ length-painted _ _ _
+shape_of-output c = ap length c.loop-k.invariant.rows ∙ length-painted _ _ _
 
 pub returns : goal.returns
 returns c =
-    rows_ended _ _ _ (between _) _ _ _ c.loop-k.invariant.1.0 c.loop-k-test.false c.loop-k.invariant.1.1
+    rows_ended _ _ _ (between _) _ _ _ (omega (arith, c.requires.0.forward)) c.loop-k-test.false c.loop-k.invariant.rows
