@@ -20,9 +20,7 @@ pub(crate) fn add_up(
     sums: &mut [u32; PART],
     output: &mut [u16],
 )
-    requires { length sums.old ≡ part_places }
-    ensures adds { output.new ≡ painted (below (min (length base.now) (length enhancement.now))) (added_up tables.entry.mapped.now tables.entry.raised.now tables.entry.cut base.now enhancement.now) output.old }
-    ensures places { length sums.new ≡ part_places }
+    ensures { output.new ≡ painted (below (min (length base.now) (length enhancement.now))) (added_up tables.entry.mapped.now tables.entry.raised.now tables.entry.cut base.now enhancement.now) output.old }
 {
     let n = base.len().min(enhancement.len()).min(output.len());
     for i in (0..n).step_by(PART) {

@@ -86,10 +86,8 @@ fn add_up_row(
     sums: &mut [u32; PART],
     output: &mut [u16],
 )
-    requires in_plane { InPlane p k (k + 1) (length base.now) × (InPlane p k (k + 1) (length enhancement.now) × InPlane p k (k + 1) (length output.old)) }
-    requires sums_len { length sums.old ≡ part_places }
-    ensures adds { output.new ≡ painted (between (row_start p k) (row_start p (k + 1))) (added_up tables.entry.mapped.now tables.entry.raised.now tables.entry.cut base.now enhancement.now) output.old }
-    ensures places { length sums.new ≡ part_places }
+    requires { InPlane p k (k + 1) (length base.now) × (InPlane p k (k + 1) (length enhancement.now) × InPlane p k (k + 1) (length output.old)) }
+    ensures { output.new ≡ painted (between (row_start p k) (row_start p (k + 1))) (added_up tables.entry.mapped.now tables.entry.raised.now tables.entry.cut base.now enhancement.now) output.old }
 {
     let a = p.start + p.row * k;
     let b = a + p.row;

@@ -2,7 +2,6 @@ use mathlib.Core.Path.{◌≡◌, ap, subst, ◌∙◌}
 use mathlib.Core.List.{List}
 use Prim.Native.Nat.{ℕ}
 use native.Mathlib.Omega.{arith}
-use borrow.Author.Rules.{rules}
 use lib.ListN.{length}
 use Rattle.runs.proofs.Painting.{PaintedFrom, paint_none, paint_on, paint_all, length-painted}
 use Rattle.rows.proofs.Parts.{in_two_passes}
@@ -20,16 +19,13 @@ loop-i-preserved c =
     }
 
 pub returns : goal.returns
-returns c = record { adds = paint_all _ c.loop-i.invariant.painted (omega arith); places = c.loop-i.invariant.places }
+returns c = paint_all _ c.loop-i.invariant.painted (omega arith)
 
 pub loop-i-init : goal.loop-i-init
 loop-i-init c =
-    record { places = search rules; painted = paint_to (paint_none 0 _ _) (omega arith) }
+    record { places = c.told-sums; painted = paint_to (paint_none 0 _ _) (omega arith) }
 
--- a turn after which the next index would be too large is the last one
+-- a turn after which none is left
 pub returns-2 : goal.returns-2
 returns-2 c =
-    record {
-      adds = paint_all _ (paint_on (paint_to c.loop-i.invariant.painted (omega arith)) (in_two_passes _ _ _ _ _ _ _ _ (omega arith) (omega arith) (omega arith) (omega arith) (omega arith) _ _ c.loop-i.invariant.places c.sum_up.ensures _ c.lower_all.ensures)) (omega arith);
-      places = ap length c.sum_up.ensures ∙ length-painted _ _ _ ∙ c.loop-i.invariant.places;
-    }
+    paint_all _ (paint_on (paint_to c.loop-i.invariant.painted (omega arith)) (in_two_passes _ _ _ _ _ _ _ _ (omega arith) (omega arith) (omega arith) (omega arith) (omega arith) _ _ c.loop-i.invariant.places c.sum_up.ensures _ c.lower_all.ensures)) (omega arith)

@@ -1,6 +1,6 @@
 use mathlib.Core.Path.{sym, ◌∙◌}
 use native.Mathlib.Omega.{arith}
-use Rattle.rows.proofs.Standing.{full_begun, full_on, found_next, none_next}
+use Rattle.rows.proofs.Standing.{full_on, found_next, none_next}
 use Rattle.rows.proofs.apart.next_open.Goals as goal
 
 pub returns-then-not-is_full : goal.returns-then-not-is_full
@@ -14,7 +14,3 @@ loop-j-preserved c =
 pub returns : goal.returns
 returns c =
     none_next _ _ c.args.last c.requires (λ i p q. c.loop-j.invariant i p (omega arith)) _ (omega arith) (omega arith)
-
-pub loop-j-init : goal.loop-j-init
-loop-j-init c =
-    full_begun _ _
