@@ -19,7 +19,6 @@ use plan::ranges::header_fits;
 use plan::{Header, Nlq};
 use rounding::{finish, power, raise};
 use rule_seven::quantizes;
-use spans::least;
 use sums::Cut;
 
 // The raised residual of each code, in a table: of those below the offset, of that at it, and of those above it. Where they
@@ -88,7 +87,7 @@ pub fn finished_table(h: Header, mapped: &[u16]) -> [u16; 1024]
         return [0u16; 1024];
     }
     let out = (h.hdr as u32) + 8;
-    let n = least(mapped.len(), 1024);
+    let n = mapped.len().min(1024);
     let mut table = [0u16; 1024];
     let mut s = 0;
     while s < n {

@@ -18,7 +18,7 @@ pub loop-s-init : goal.loop-s-init
 loop-s-init c = (omega arith, fill_none 1024 _ 0 (λ j h. omega arith))
 
 pub loop-s-preserved : goal.loop-s-preserved
-loop-s-preserved c = (omega arith, fill_more c.loop-s.invariant.1 (omega (arith, c.least-n.ensures)) c.finish.ensures)
+loop-s-preserved c = (omega arith, fill_more c.loop-s.invariant.1 (omega (arith, c.min-n.ensures)) c.finish.ensures)
 
 pub finish-requires : goal.finish-requires
 finish-requires c =
@@ -30,5 +30,5 @@ unfolding finished_table finished_code
 returns c =
     let a = c.args in
     fill_all (finished_code a.h a.mapped.now) c.loop-s.invariant.1
-    (λ j b k. sym (code_finished a.h (sym c.header_fits.ensures ∙ c.if-not-header_fits.false) a.mapped.now j (omega (arith, c.least-n.ensures))))
-    (λ j b k. coded_past (header_fits a.h) (length a.mapped.now) _ j (omega (arith, c.least-n.ensures)))
+    (λ j b k. sym (code_finished a.h (sym c.header_fits.ensures ∙ c.if-not-header_fits.false) a.mapped.now j (omega (arith, c.min-n.ensures))))
+    (λ j b k. coded_past (header_fits a.h) (length a.mapped.now) _ j (omega (arith, c.min-n.ensures)))
