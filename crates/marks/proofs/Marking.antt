@@ -2,16 +2,13 @@
 use mathlib.Core.Path.{◌≡◌, refl, sym, ap, ◌∙◌}
 use mathlib.Core.Bool.{Bool, true, false, not, ◌&&◌, cond, and-false, and-true}
 use mathlib.Core.List.{List}
-use Prim.Native.Nat.{ℕ, ◌+◌, ◌-◌, ◌≤◌, ◌<◌}
-use native.Mathlib.Nat.{zero-add}
+use Prim.Native.Nat.{ℕ, ◌-◌, ◌≤◌, ◌<◌}
 use lib.Dec.{eqb}
 use lib.ListN.{length, get_or, replicate, length-replicate}
 use borrow.Author.Tests.{le-leb, lt-leb, eqb-true}
 use borrow.Rule.Slice.PartMut.{put_mid}
-use Rattle.std.specs.List.{count_by}
 use Rattle.std.proofs.lemmas.List.{get_or-replicate}
-use Rattle.std.proofs.lemmas.List.Recursion.{is_count_by}
-use Rattle.runs.specs.Runs.{painted, between, tally}
+use Rattle.runs.specs.Runs.{painted, between}
 use Rattle.runs.specs.inner.Loops.{at}
 use Rattle.runs.proofs.Painting.{length-painted, at-painted, is_painted, painted_cong}
 use Rattle.runs.proofs.Parts.{part, painted-part}
@@ -29,15 +26,6 @@ pub part-filled : (value first last : ℕ) (marks after : List ℕ) → first �
 part-filled value first last marks after forward inside e =
     ap (put_mid first (last - first) marks) (all-filled value _ _ e)
     ∙ painted-part first last marks forward inside every_pair (λ k. value) (λ k. value) (λ k b. refl) (λ k b. refl)
-
--- the library's count
-pub tally-counts : (test : ℕ → Bool) (marks : List ℕ) → tally test marks ≡ count_by test marks
-unfolding tally
-tally-counts test marks = is_count_by (tally test) test refl (λ mark rest. go (test mark) _) marks
-  where
-    go : (t : Bool) (n : ℕ) → cond t 1 0 + n ≡ cond t (1 + n) n
-    go true n = refl
-    go false n = zero-add n
 
 module _ (first last : ℕ) (marks : List ℕ) where
   pub all-marked : (whole : Bool) → first ≤ last → last ≤ length marks → marked whole first last marks ≡ painted (composed_pairs whole first last marks) (done whole) marks

@@ -63,11 +63,18 @@ pub fn mark(full: bool, from: usize, to: usize, marks: &mut [u8])
     put_based(from, to, marks);
 }
 
-// How many marks have a value.
+// How many marks have a value. `filter` and `count` of an iterator are not made into vectors: a job of one row pair takes 4 %
+// more instructions by them.
 fn count(value: u8, marks: &[u8]) -> usize
     ensures { result ≡ tally (has value) marks.now }
 {
-    marks.iter().filter(|mark| **mark == value).count()
+    let mut many: usize = 0;
+    for mark in marks {
+        if *mark == value {
+            many += 1;
+        }
+    }
+    many
 }
 
 // How many row pairs wait.

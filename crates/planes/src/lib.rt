@@ -1,5 +1,6 @@
 // Row pairs composed plane by plane: a plane's tables are made once a call, and its row pairs go by them. Nothing is asked of the
-// plan or the samples: what the tables hold for a plan that passes rule 7 is for `compose` to say.
+// plan or the samples: what the tables hold for a plan that passes rule 7 is for `compose` to say. The runs are lent one by one, as
+// a job has them: marks and base only read, an enhancement or none, and the output written.
 #![tactic(auto)]
 
 ghost use Rattle.std.specs.Prelude.{◌≡◌};

@@ -12,7 +12,7 @@ use each::{add_up_each, look_up_each};
 use picture::Plane;
 use sums::Tables;
 
-// The row pairs from `first` up to, but not including, `last`.
+// The row pairs from `first` up to, but not including, `last`. They are a picture's, and a plane is lent beside them.
 #[derive(Clone, Copy)]
 pub struct Rows {
     pub first: usize,

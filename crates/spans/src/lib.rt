@@ -1,10 +1,11 @@
 // Loops over whole slices: samples looked up in a table, and the bits of six runs joined. A table has a place for every
-// index that a loop can ask for, so that nothing is asked of the samples.
+// index that a loop can ask for, so that nothing is asked of the samples. Table and base are handed on one by one: a struct of
+// these two references would make no line shorter, and each clause longer.
 #![tactic(auto)]
 
 pub mod apart; // stretches that stand apart, in step
 
-ghost use Rattle.std.specs.Prelude.{◌≡◌, ◌+◌, ◌<◌, ◌≤◌, length};
+ghost use Rattle.std.specs.Prelude.{◌≡◌, ◌+◌, ◌*◌, ◌^◌, ◌<◌, ◌≤◌, length};
 ghost use Rattle.runs.specs.Runs.{painted, between};
 ghost use Rattle.runs.specs.inner.Loops.{below};
 ghost use Rattle.spans.specs.inner.Spans.{entry, looked_up, four, put_four, Given, Joins, joined_six};
@@ -18,6 +19,13 @@ fn looked_up(table: &[u16; 1024], base: &[u16], i: usize) -> u16
     v
 }
 
+// Of four samples one number, the first one lowest.
+fn join(a: u16, b: u16, c: u16, d: u16) -> u64
+    ensures { result ≡ a + b * 2 ^ 16 + c * 2 ^ 32 + d * 2 ^ 48 }
+{
+    (((a as u64) + ((b as u64) << 16)) + ((c as u64) << 32)) + ((d as u64) << 48)
+}
+
 // Four samples as one number, the first one lowest: the compiler makes one load of them. Where there are no four, 0: a caller
 // that lends four pays for no test.
 pub fn four(part: &[u16]) -> u64
@@ -27,8 +35,7 @@ pub fn four(part: &[u16]) -> u64
     if part.len() < 4 {
         return 0;
     }
-    (((part[0] as u64) + ((part[1] as u64) << 16)) + ((part[2] as u64) << 32))
-        + ((part[3] as u64) << 48)
+    join(part[0], part[1], part[2], part[3])
 }
 
 // Stores a number as four samples, the lowest first: the compiler makes one store of them. Where there are no four places,
@@ -62,7 +69,7 @@ fn looked_up_four(table: &[u16; 1024], base: &[u16], i: usize) -> u64
     let b = entry_of(table, w >> 16);
     let c = entry_of(table, w >> 32);
     let d = entry_of(table, w >> 48);
-    (((a as u64) + ((b as u64) << 16)) + ((c as u64) << 32)) + ((d as u64) << 48)
+    join(a, b, c, d)
 }
 
 // Eight samples, stored after all their loads.

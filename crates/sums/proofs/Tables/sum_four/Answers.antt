@@ -2,7 +2,6 @@ use mathlib.Core.Path.{◌≡◌, ap₂, ◌∙◌}
 use mathlib.Core.List.{List}
 use Prim.Native.Nat.{ℕ, ◌+◌, ◌%◌, ◌^◌}
 use native.Mathlib.Omega.{arith}
-use lib.ListN.{length-set}
 use Rattle.runs.specs.inner.Loops.{at}
 use Rattle.runs.proofs.Painting.{paint_none, paint_four, paint_part}
 use Rattle.spans.proofs.Fours.{given-at}
@@ -29,15 +28,3 @@ returns c =
     (same_sum m r c.sum_of-c.ensures b.third e.third)
     (same_sum m r c.sum_of-d.ensures b.fourth e.fourth))
     (omega arith)
-
-pub bounds-sums-i-2 : goal.bounds-sums-i-2
-bounds-sums-i-2 c =
-    rw length-set (omega (arith, c.requires.2))
-
-pub bounds-sums-i-3 : goal.bounds-sums-i-3
-bounds-sums-i-3 c =
-    rw (length-set, length-set) (omega (arith, c.requires.2))
-
-pub bounds-sums-i-4 : goal.bounds-sums-i-4
-bounds-sums-i-4 c =
-    rw (length-set, length-set, length-set) (omega (arith, c.requires.2))

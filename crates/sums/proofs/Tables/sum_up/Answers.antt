@@ -19,14 +19,6 @@ pub loop-t-init : goal.loop-t-init
 loop-t-init c =
     paint_begun _ _ _ _ (omega arith)
 
-pub sum_four-requires : goal.sum_four-requires
-sum_four-requires c =
-    (omega arith, omega arith, omega arith)
-
 pub loop-i-init : goal.loop-i-init
 loop-i-init c =
     paint_none _ _ _
-
-pub summed-requires : goal.summed-requires
-summed-requires c =
-    (omega arith, omega arith)
