@@ -122,7 +122,6 @@ leaves_settled =
       picture_size = λ κs a r r' s s' p q. p ∙ sym q;
       refusal_of = λ κs a r r' s s' p q. one_refusal r r' (p ∙ sym q);
       quantizes = λ κs a r r' s s' p q. p ∙ sym q;
-      least = λ κs a r r' s s' p q. p ∙ sym q;
       plain_planes = λ κs a r r' s s' p q. p ∙ sym q;
       enhanced_planes = λ κs a r r' s s' p q. p ∙ sym q;
       speed_write = λ κs a r r' s s' p q. p.0 ∙ sym q.0;

@@ -57,7 +57,6 @@ pub mod refusal_of_pictures
 pub mod look_up_in_step
 pub mod four
 pub mod joined_six
-pub mod least
 pub mod look_up
 pub mod put_four
 pub mod speed_fill

@@ -58,7 +58,6 @@ ghost use Rattle.calls.specs.promises.refusal_of_pictures.{Keeps as refusal_of_p
 ghost use Rattle.calls.specs.promises.look_up_in_step.{Keeps as look_up_in_step_keeps};
 ghost use Rattle.calls.specs.promises.four.{Keeps as four_keeps};
 ghost use Rattle.calls.specs.promises.joined_six.{Keeps as joined_six_keeps};
-ghost use Rattle.calls.specs.promises.least.{Keeps as least_keeps};
 ghost use Rattle.calls.specs.promises.look_up.{Keeps as look_up_keeps};
 ghost use Rattle.calls.specs.promises.put_four.{Keeps as put_four_keeps};
 ghost use Rattle.calls.specs.promises.speed_fill.{Keeps as speed_fill_keeps};
@@ -267,19 +266,19 @@ pub fn chroma_size(columns: u16, pairs: u16) -> usize
 pub fn lies(p: picture::Plane, first: usize, last: usize, n: usize) -> bool
     ensures { lies_keeps p first last n result }
 {
-    picture::lies(p, first, last, n)
+    p.lies(first, last, n)
 }
 
 pub fn picture_picture_size(e: picture::Extent) -> usize
     ensures { picture_picture_size_keeps e result }
 {
-    picture::picture_size(e)
+    e.picture_size()
 }
 
 pub fn planes_of(e: picture::Extent) -> picture::Planes
     ensures { planes_of_keeps e result }
 {
-    picture::planes_of(e)
+    e.planes()
 }
 
 pub fn empty() -> plan::Plan
@@ -430,7 +429,12 @@ pub fn add_up_rows(
 )
     ensures { add_up_rows_keeps mapped.now raised.now cut p r base.now enhancement.now output.old output.new }
 {
-    rows::add_up_rows(mapped, raised, cut, p, r, base, enhancement, output)
+    let tables = sums::Tables {
+        mapped,
+        raised,
+        cut,
+    };
+    rows::add_up_rows(tables, p, r, base, enhancement, output)
 }
 
 pub fn look_up_rows(
@@ -550,7 +554,8 @@ pub fn look_up_in_step(
 )
     ensures { look_up_in_step_keeps table.now a b c d n base.now output.old output.new }
 {
-    spans::apart::look_up_in_step(table, a, b, c, d, n, base, output)
+    let stretches = spans::apart::Stretches { a, b, c, d, n };
+    spans::apart::look_up_in_step(table, stretches, base, output)
 }
 
 pub fn four(part: &[u16]) -> u64
@@ -563,12 +568,6 @@ pub fn joined_six(a: &[u16], b: &[u16], c: &[u16], d: &[u16], e: &[u16], f: &[u1
     ensures { joined_six_keeps a.now b.now c.now d.now e.now f.now result }
 {
     spans::joined_six(a, b, c, d, e, f)
-}
-
-pub fn least(a: usize, b: usize) -> usize
-    ensures { least_keeps a b result }
-{
-    spans::least(a, b)
 }
 
 pub fn look_up(table: &[u16; 1024], base: &[u16], output: &mut [u16])
@@ -676,25 +675,31 @@ pub fn pivots_of(preds: [u16; plan::limits::PIVOTS]) -> [u16; plan::limits::PIVO
 pub fn cut_out(cut: sums::Cut, v: u16, r: u32) -> u16
     ensures { cut_out_keeps cut v r result }
 {
-    sums::cut_out(cut, v, r)
+    cut.cut_out(v, r)
 }
 
 pub fn lower_all(cut: sums::Cut, sums: &[u32], output: &mut [u16])
     ensures { lower_all_keeps cut sums.now output.old output.new }
 {
-    sums::passes::lower_all(cut, sums, output)
+    cut.lower_all(sums, output)
 }
 
 pub fn sum_up(
     mapped: &[u16; 1024],
     raised: &[u32; 1024],
+    cut: sums::Cut,
     base: &[u16],
     enhancement: &[u16],
     sums: &mut [u32],
 )
-    ensures { sum_up_keeps mapped.now raised.now base.now enhancement.now sums.old sums.new }
+    ensures { sum_up_keeps mapped.now raised.now cut base.now enhancement.now sums.old sums.new }
 {
-    sums::passes::sum_up(mapped, raised, base, enhancement, sums)
+    let tables = sums::Tables {
+        mapped,
+        raised,
+        cut,
+    };
+    tables.sum_up(base, enhancement, sums)
 }
 
 pub fn compose_by_table(

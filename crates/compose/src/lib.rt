@@ -7,7 +7,6 @@ ghost use Rattle.rules.specs.Rules.{given, extent};
 ghost use Rattle.compose.specs.Composing.{says, makes_full, answer, output_after};
 ghost use Rattle.compose.specs.inner.Seen.{marks_seen};
 
-use picture::picture_size as size_of;
 use plan::{Header, Plan};
 use planes::{enhanced_planes, plain_planes};
 use refusals::Refusal;
@@ -18,7 +17,7 @@ use rules::{Work, extent_of, is_used, refusal_of};
 pub fn picture_size(h: Header) -> usize
     ensures { result ≡ picture_size (extent h) }
 {
-    size_of(extent_of(h))
+    extent_of(h).picture_size()
 }
 
 // Whether a call makes full row pairs: the flag is 1, or an enhancement picture is used.

@@ -1,16 +1,31 @@
 -- The ways that marking goes. Assumes nothing.
-use mathlib.Core.Path.{◌≡◌, refl, sym, ◌∙◌}
+use mathlib.Core.Path.{◌≡◌, refl, sym, ap, ◌∙◌}
 use mathlib.Core.Bool.{Bool, true, false, not, ◌&&◌, cond, and-false, and-true}
 use mathlib.Core.List.{List}
-use Prim.Native.Nat.{ℕ, ◌≤◌, ◌<◌}
+use Prim.Native.Nat.{ℕ, ◌-◌, ◌≤◌, ◌<◌}
 use lib.Dec.{eqb}
-use lib.ListN.{length}
+use lib.ListN.{length, get_or, replicate, length-replicate}
 use borrow.Author.Tests.{le-leb, lt-leb, eqb-true}
+use borrow.Rule.Slice.PartMut.{put_mid}
+use Rattle.std.proofs.lemmas.List.{get_or-replicate}
 use Rattle.runs.specs.Runs.{painted, between}
 use Rattle.runs.specs.inner.Loops.{at}
 use Rattle.runs.proofs.Painting.{length-painted, at-painted, is_painted, painted_cong}
+use Rattle.runs.proofs.Parts.{part, painted-part}
 use Rattle.marks.specs.Marks.{full, full_at}
-use Rattle.marks.specs.inner.Marks.{done, based, composed_pairs, marked}
+use Rattle.marks.specs.inner.Marks.{every_pair, done, based, composed_pairs, marked}
+
+-- every mark is written with one value
+pub all-filled : (value : ℕ) (marks after : List ℕ) → after ≡ replicate (length marks) value → after ≡ painted every_pair (λ k. value) marks
+all-filled value marks after e =
+    is_painted _ _ marks after (ap length e ∙ length-replicate _ value)
+    (λ k b. ap (λ (l : List ℕ). get_or l k 0) e ∙ get_or-replicate (length marks) k value 0 b)
+
+-- or those of a part
+pub part-filled : (value first last : ℕ) (marks after : List ℕ) → first ≤ last → last ≤ length marks → after ≡ replicate (length (part first last marks)) value → put_mid first (last - first) marks after ≡ painted (between first last) (λ k. value) marks
+part-filled value first last marks after forward inside e =
+    ap (put_mid first (last - first) marks) (all-filled value _ _ e)
+    ∙ painted-part first last marks forward inside every_pair (λ k. value) (λ k. value) (λ k b. refl) (λ k b. refl)
 
 module _ (first last : ℕ) (marks : List ℕ) where
   pub all-marked : (whole : Bool) → first ≤ last → last ≤ length marks → marked whole first last marks ≡ painted (composed_pairs whole first last marks) (done whole) marks

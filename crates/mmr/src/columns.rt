@@ -12,7 +12,7 @@ use crate::step::step_of;
 use crate::terms::terms_of;
 use plan::limits::{PIECES, PIVOTS, ROW};
 use steps::{clamp, piece_of};
-use sums::{Cut, cut_out};
+use sums::Cut;
 
 // Of a component num_pivots_minus2, and the first and the last pivot.
 #[derive(Clone, Copy)]
@@ -93,7 +93,7 @@ fn finished(
 {
     let v = step_of(order, d, kind, row, t, ts);
     let e = enhancement[j];
-    cut_out(cut, v, raised[(e % 1024) as usize])
+    cut.cut_out(v, raised[(e % 1024) as usize])
 }
 
 // The index of a column in a run, which it lies in: a sum of places does not wrap where a run is so long.

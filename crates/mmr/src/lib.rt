@@ -18,7 +18,6 @@ ghost use Rattle.mmr.specs.inner.Chroma.{ends_by, numbers_fit, pairs_fit, runs_f
 
 use chroma::compose_rows;
 use columns::{Ends, Format};
-use picture::{picture_size, planes_of};
 use plan::limits::{MOST_N, PIECES, PIVOTS, ROW};
 use plan::ranges::header_fits;
 use plan::{Header, Plan};
@@ -55,7 +54,7 @@ fn pairs_fit(h: Header, first: usize, last: usize) -> bool
 fn runs_fit(h: Header, base: usize, enhancement: usize, output: usize) -> bool
     ensures { result ≡ runs_fit h base enhancement output }
 {
-    let size = picture_size(extent_of(h));
+    let size = extent_of(h).picture_size();
     (base == size) & ((enhancement == size) & (output == size))
 }
 
@@ -119,7 +118,7 @@ fn with_cr(
     let pivots2 = pivots_of(preds);
     let rows2 = rows_of(cr);
     let kinds2 = kinds_of(h.d, cr, &rows2);
-    let planes = planes_of(extent_of(h));
+    let planes = extent_of(h).planes();
     compose_rows(
         f,
         planes,

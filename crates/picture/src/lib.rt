@@ -33,49 +33,39 @@ pub fn chroma_size(columns: u16, pairs: u16) -> usize
     (columns as usize) * (pairs as usize)
 }
 
-// How many samples the run of a picture has, 3WH/2.
-pub fn picture_size(e: Extent) -> usize
-    ensures { result ≡ picture_size e }
-{
-    6 * chroma_size(e.columns, e.pairs)
+impl Extent {
+    // How many samples the run of a picture has, 3WH/2.
+    pub fn picture_size(self) -> usize
+        ensures { result ≡ picture_size self }
+    {
+        6 * chroma_size(self.columns, self.pairs)
+    }
+
+    pub fn planes(self) -> Planes
+        ensures { result ≡ planes self }
+    {
+        let row = self.columns as usize;
+        let n = chroma_size(self.columns, self.pairs);
+        Planes {
+            y: Plane {
+                start: 0,
+                row: 4 * row,
+            },
+            cb: Plane { start: 4 * n, row },
+            cr: Plane { start: 5 * n, row },
+        }
+    }
 }
 
-// Whether row pairs from `first` up to `last` of a plane lie within a run of n samples. The sum of their samples could wrap,
-// so it is not made.
-pub fn lies(p: Plane, first: usize, last: usize, n: usize) -> bool
-    ensures { result ≡ lies p first last n }
-{
-    let start = p.start;
-    let row = p.row;
-    if row == 0 {
-        return false;
-    }
-    if last < first {
-        return false;
-    }
-    if n < start {
-        return false;
-    }
-    last <= (n - start) / row
-}
-
-pub fn planes_of(e: Extent) -> Planes
-    ensures { result ≡ planes e }
-{
-    let row = e.columns as usize;
-    let n = chroma_size(e.columns, e.pairs);
-    Planes {
-        y: Plane {
-            start: 0,
-            row: 4 * row,
-        },
-        cb: Plane {
-            start: 4 * n,
-            row: row,
-        },
-        cr: Plane {
-            start: 5 * n,
-            row: row,
-        },
+impl Plane {
+    // Whether row pairs from `first` up to `last` lie within a run of n samples. The sum of their samples could wrap, so it
+    // is not made.
+    pub fn lies(self, first: usize, last: usize, n: usize) -> bool
+        ensures { result ≡ lies self first last n }
+    {
+        if self.row == 0 || last < first || n < self.start {
+            return false;
+        }
+        last <= (n - self.start) / self.row
     }
 }

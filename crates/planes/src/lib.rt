@@ -1,5 +1,6 @@
 // Row pairs composed plane by plane: a plane's tables are made once a call, and its row pairs go by them. Nothing is asked of the
-// plan or the samples: what the tables hold for a plan that passes rule 7 is for `compose` to say.
+// plan or the samples: what the tables hold for a plan that passes rule 7 is for `compose` to say. The runs are lent one by one, as
+// a job has them: marks and base only read, an enhancement or none, and the output written.
 #![tactic(auto)]
 
 ghost use Rattle.std.specs.Prelude.{◌≡◌};
@@ -9,12 +10,12 @@ ghost use Rattle.planes.specs.inner.ByTables.{plain_chroma, enhanced_chroma, pla
 
 use mapping::mapped_table;
 use mmr::compose_chroma;
-use picture::{Plane, planes_of};
+use picture::Plane;
 use plan::{Header, Nlq, Plan};
 use residual::{cut_numbers, finished_table, no_residual, residual_pair, residual_table};
 use rows::{Rows, add_up_rows, look_up_rows};
 use rules::extent_of;
-use sums::Cut;
+use sums::{Cut, Tables};
 
 // One plane without residual, by its mapped samples: those of a table that is made, or of a part of one that is lent.
 // Row pairs that are full by the marks are kept.
@@ -48,7 +49,12 @@ pub fn enhanced_plane(
     ensures { output.new ≡ added_up_rows mapped.now (residual_table h q) cut p r base.now enhancement.now output.old }
 {
     let raised = residual_table(h, q);
-    add_up_rows(mapped, &raised, cut, p, r, base, enhancement, output);
+    let tables = Tables {
+        mapped,
+        raised: &raised,
+        cut,
+    };
+    add_up_rows(tables, p, r, base, enhancement, output);
 }
 
 // Chroma by MMR. The enhancement is not there: the base stands for it, since every code has no residual.
@@ -96,7 +102,7 @@ pub fn plain_planes(plan: Plan, r: Rows, marks: &[u8], base: &[u16], output: &mu
     ensures { output.new ≡ plain_picture plan r marks.now base.now output.old }
 {
     let h = plan.header;
-    let p = planes_of(extent_of(h));
+    let p = extent_of(h).planes();
     let y = plan.y;
     let luma = mapped_table(h, y);
     let cb = plan.cb;
@@ -118,7 +124,7 @@ pub fn enhanced_planes(plan: Plan, r: Rows, base: &[u16], enhancement: &[u16], o
     ensures { output.new ≡ enhanced_picture plan r base.now enhancement.now output.old }
 {
     let h = plan.header;
-    let p = planes_of(extent_of(h));
+    let p = extent_of(h).planes();
     let cut = cut_numbers(h);
     let y = plan.y;
     let luma = mapped_table(h, y);

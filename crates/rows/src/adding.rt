@@ -5,9 +5,7 @@ ghost use Rattle.runs.specs.inner.Loops.{below};
 ghost use Rattle.sums.specs.inner.Sums.{added_up};
 ghost use Rattle.rows.specs.inner.Rows.{part_places};
 
-use spans::least;
-use sums::Cut;
-use sums::passes::{lower_all, sum_up};
+use sums::Tables;
 
 // So many sums stay in the nearest cache from the first pass to the second.
 pub(crate) const PART: usize = 128;
@@ -16,24 +14,18 @@ pub(crate) const PART: usize = 128;
 // goes by the tables; the second has no table and no branch, so that eight samples are cut at once, while their sums are near.
 // The places of the sums are lent, and what stands there is nobody's.
 pub(crate) fn add_up(
-    mapped: &[u16; 1024],
-    raised: &[u32; 1024],
-    cut: Cut,
+    tables: Tables,
     base: &[u16],
     enhancement: &[u16],
     sums: &mut [u32; PART],
     output: &mut [u16],
 )
-    requires { length sums.old ≡ part_places }
-    ensures adds { output.new ≡ painted (below (min (length base.now) (length enhancement.now))) (added_up mapped.now raised.now cut base.now enhancement.now) output.old }
-    ensures places { length sums.new ≡ part_places }
+    ensures { output.new ≡ painted (below (min (length base.now) (length enhancement.now))) (added_up tables.entry.mapped.now tables.entry.raised.now tables.entry.cut base.now enhancement.now) output.old }
 {
-    let n = least(least(base.len(), enhancement.len()), output.len());
-    let mut i = 0;
-    while i < n {
-        let j = i + least(PART, n - i);
-        sum_up(mapped, raised, &base[i..j], &enhancement[i..j], sums);
-        lower_all(cut, sums, &mut output[i..j]);
-        i = j;
+    let n = base.len().min(enhancement.len()).min(output.len());
+    for i in (0..n).step_by(PART) {
+        let j = i + PART.min(n - i);
+        tables.sum_up(&base[i..j], &enhancement[i..j], sums);
+        tables.cut.lower_all(sums, &mut output[i..j]);
     }
 }

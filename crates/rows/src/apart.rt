@@ -7,21 +7,19 @@ ghost use Rattle.rows.specs.inner.Rows.{Next};
 
 use marks::is_full;
 use picture::Plane;
-use spans::apart::look_up_in_step;
+use spans::apart::{Stretches, look_up_in_step};
 
 // The next row pair after k that is not full, or `last` where there is none before it.
 pub(crate) fn next_open(marks: &[u8], k: usize, last: usize) -> usize
     requires { k ≤ last }
     ensures { Next marks.now k last result }
 {
-    let mut j = k;
-    while j < last {
-        j += 1;
-        if !is_full(marks, j) {
-            return j;
+    for j in k..last {
+        if !is_full(marks, j + 1) {
+            return j + 1;
         }
     }
-    j
+    last
 }
 
 // Looks four row pairs up, in step: those of a plane whose row pairs are whole lines of the caches.
@@ -40,14 +38,12 @@ pub(crate) fn look_up_apart(
 {
     let start = p.start;
     let row = p.row;
-    look_up_in_step(
-        table,
-        start + row * a,
-        start + row * b,
-        start + row * c,
-        start + row * d,
-        row,
-        base,
-        output,
-    );
+    let s = Stretches {
+        a: start + row * a,
+        b: start + row * b,
+        c: start + row * c,
+        d: start + row * d,
+        n: row,
+    };
+    look_up_in_step(table, s, base, output);
 }

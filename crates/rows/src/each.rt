@@ -1,4 +1,5 @@
-// One row pair after the other: each is a part of the runs, lent to a loop over slices.
+// One row pair after the other: each is a part of the runs, lent to a loop over slices. That it lies in them is asked by
+// clauses, run by run: a struct would hold the output, a `&mut`, beside what is known of it, which no generated proof covers.
 ghost use Rattle.std.specs.Prelude.{◌≡◌, ◌+◌, ◌<◌, ◌≤◌, length};
 ghost use Rattle.runs.specs.Runs.{painted, between};
 ghost use Rattle.marks.specs.inner.Marks.{not_full};
@@ -13,7 +14,7 @@ use crate::apart::{look_up_apart, next_open};
 use marks::is_full;
 use picture::Plane;
 use spans::look_up;
-use sums::Cut;
+use sums::Tables;
 
 fn look_up_row(table: &[u16; 1024], p: Plane, k: usize, base: &[u16], output: &mut [u16])
     requires { InPlane p k (k + 1) (length base.now) × InPlane p k (k + 1) (length output.old) }
@@ -71,15 +72,14 @@ pub(crate) fn look_up_each(
 {
     let last = r.last;
     let mut k = r.first;
+    // one turn deals with one row pair or with several, so that no range has its turns
     while k < last {
         k = look_up_next(table, p, k, last, marks, base, output);
     }
 }
 
 fn add_up_row(
-    mapped: &[u16; 1024],
-    raised: &[u32; 1024],
-    cut: Cut,
+    tables: Tables,
     p: Plane,
     k: usize,
     base: &[u16],
@@ -87,17 +87,13 @@ fn add_up_row(
     sums: &mut [u32; PART],
     output: &mut [u16],
 )
-    requires in_plane { InPlane p k (k + 1) (length base.now) × (InPlane p k (k + 1) (length enhancement.now) × InPlane p k (k + 1) (length output.old)) }
-    requires sums_len { length sums.old ≡ part_places }
-    ensures adds { output.new ≡ painted (between (row_start p k) (row_start p (k + 1))) (added_up mapped.now raised.now cut base.now enhancement.now) output.old }
-    ensures places { length sums.new ≡ part_places }
+    requires { InPlane p k (k + 1) (length base.now) × (InPlane p k (k + 1) (length enhancement.now) × InPlane p k (k + 1) (length output.old)) }
+    ensures { output.new ≡ painted (between (row_start p k) (row_start p (k + 1))) (added_up tables.entry.mapped.now tables.entry.raised.now tables.entry.cut base.now enhancement.now) output.old }
 {
     let a = p.start + p.row * k;
     let b = a + p.row;
     add_up(
-        mapped,
-        raised,
-        cut,
+        tables,
         &base[a..b],
         &enhancement[a..b],
         sums,
@@ -106,9 +102,7 @@ fn add_up_row(
 }
 
 pub(crate) fn add_up_each(
-    mapped: &[u16; 1024],
-    raised: &[u32; 1024],
-    cut: Cut,
+    tables: Tables,
     p: Plane,
     r: Rows,
     base: &[u16],
@@ -116,23 +110,10 @@ pub(crate) fn add_up_each(
     output: &mut [u16],
 )
     requires { RowsIn p r base.now × (RowsIn p r enhancement.now × RowsIn p r output.old) }
-    ensures { output.new ≡ painted (in_rows p (between r.first r.last)) (added_up mapped.now raised.now cut base.now enhancement.now) output.old }
+    ensures { output.new ≡ painted (in_rows p (between r.first r.last)) (added_up tables.entry.mapped.now tables.entry.raised.now tables.entry.cut base.now enhancement.now) output.old }
 {
-    let last = r.last;
     let mut sums = [0u32; PART];
-    let mut k = r.first;
-    while k < last {
-        add_up_row(
-            mapped,
-            raised,
-            cut,
-            p,
-            k,
-            base,
-            enhancement,
-            &mut sums,
-            output,
-        );
-        k += 1;
+    for k in r.first..r.last {
+        add_up_row(tables, p, k, base, enhancement, &mut sums, output);
     }
 }

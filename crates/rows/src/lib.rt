@@ -9,10 +9,10 @@ ghost use Rattle.std.specs.Prelude.{◌≡◌};
 ghost use Rattle.rows.specs.inner.Rows.{looked_up_rows, added_up_rows};
 
 use each::{add_up_each, look_up_each};
-use picture::{Plane, lies};
-use sums::Cut;
+use picture::Plane;
+use sums::Tables;
 
-// The row pairs from `first` up to, but not including, `last`.
+// The row pairs from `first` up to, but not including, `last`. They are a picture's, and a plane is lent beside them.
 #[derive(Clone, Copy)]
 pub struct Rows {
     pub first: usize,
@@ -31,8 +31,8 @@ pub fn look_up_rows(
 )
     ensures { output.new ≡ looked_up_rows table.now p r marks.now base.now output.old }
 {
-    let in_base = lies(p, r.first, r.last, base.len());
-    let in_output = lies(p, r.first, r.last, output.len());
+    let in_base = p.lies(r.first, r.last, base.len());
+    let in_output = p.lies(r.first, r.last, output.len());
     if in_base & in_output {
         look_up_each(table, p, r, marks, base, output);
     }
@@ -40,21 +40,19 @@ pub fn look_up_rows(
 
 // Adds mapped samples and raised residuals up, and cut the sums.
 pub fn add_up_rows(
-    mapped: &[u16; 1024],
-    raised: &[u32; 1024],
-    cut: Cut,
+    tables: Tables,
     p: Plane,
     r: Rows,
     base: &[u16],
     enhancement: &[u16],
     output: &mut [u16],
 )
-    ensures { output.new ≡ added_up_rows mapped.now raised.now cut p r base.now enhancement.now output.old }
+    ensures { output.new ≡ added_up_rows tables.entry.mapped.now tables.entry.raised.now tables.entry.cut p r base.now enhancement.now output.old }
 {
-    let in_base = lies(p, r.first, r.last, base.len());
-    let in_enhancement = lies(p, r.first, r.last, enhancement.len());
-    let in_output = lies(p, r.first, r.last, output.len());
+    let in_base = p.lies(r.first, r.last, base.len());
+    let in_enhancement = p.lies(r.first, r.last, enhancement.len());
+    let in_output = p.lies(r.first, r.last, output.len());
     if in_base & (in_enhancement & in_output) {
-        add_up_each(mapped, raised, cut, p, r, base, enhancement, output);
+        add_up_each(tables, p, r, base, enhancement, output);
     }
 }

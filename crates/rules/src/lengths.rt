@@ -3,7 +3,6 @@ ghost use Rattle.std.specs.Prelude.{◌≡◌};
 ghost use Rattle.rules.specs.Rules.{wrong_length, wrong_pairs};
 
 use crate::{extent_of, is_used};
-use picture::picture_size;
 use plan::Header;
 
 // Rule 9. An enhancement that is not used may have any length.
@@ -12,7 +11,7 @@ pub fn is_wrong_length(h: Header, base: usize, enhancement: usize, output: usize
     ensures { result ≡ wrong_length h base enhancement output }
 {
     let e = extent_of(h);
-    let size = picture_size(e);
+    let size = e.picture_size();
     let enhanced = is_used(h, enhancement);
     (base != size) | ((output != size) | (enhanced & (enhancement != size)))
 }

@@ -8,7 +8,7 @@ ghost use Rattle.rules.specs.Rules.{extent, used, wrong_sample};
 ghost use Rattle.rules.specs.inner.Six.{SixWithin, some_in_six};
 
 use crate::{Work, extent_of, is_used};
-use picture::{Extent, planes_of};
+use picture::Extent;
 use plan::Header;
 use spans::joined_six;
 
@@ -44,7 +44,7 @@ fn large_in_picture(e: Extent, first: usize, last: usize, minus8: u8, run: &[u16
     requires { InPicture e first last (length run.now) × (minus8 ≤ 2) }
     ensures { result ≡ some (in_pairs e first last) (at_least (2 ^ (minus8 + 8))) run.now }
 {
-    let p = planes_of(e);
+    let p = e.planes();
     let y = p.y.start + p.y.row * first;
     let b = p.cb.start + p.cb.row * first;
     let r = p.cr.start + p.cr.row * first;

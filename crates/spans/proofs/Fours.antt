@@ -15,20 +15,15 @@ use Rattle.runs.proofs.Painting.{PaintedFrom, length-painted, painted_on, paint_
 use Rattle.runs.proofs.Parts.{part, length_part, at_part, painted-part}
 use Rattle.spans.specs.inner.Spans.{four, sample_of, put_four, Given, Joins}
 
--- a sample shifted up, in 64 bits
-abbrev up : ℕ → ℕ → ℕ
-up k a = a * 2 ^ k % 2 ^ 64
+pub joined : (run : List ℕ) → 4 ≤ length run → at run 0 + at run 1 * 2 ^ 16 + at run 2 * 2 ^ 32 + at run 3 * 2 ^ 48 ≡ four run
+unfolding four
+joined run h = rw (le-ltb (length run) 4 h)
 
 module _ (run : List ℕ) (p : at run 0 < 2 ^ 16) (q : at run 1 < 2 ^ 16) (r : at run 2 < 2 ^ 16) (s : at run 3 < 2 ^ 16) where
   abbrev low : ℕ
   low = at run 0 + at run 1 * 2 ^ 16 + at run 2 * 2 ^ 32
 
-  -- nothing is shifted out
-  pub joined_up : 4 ≤ length run → at run 0 + up 16 (at run 1) + up 32 (at run 2) + up 48 (at run 3) ≡ four run
-  unfolding four
-  joined_up h = rw (le-ltb (length run) 4 h) (omega arith)
-
-  -- and no sample reaches the next one's bits
+  -- no sample reaches the next one's bits
   pub given : 4 ≤ length run → Given run 0 (four run)
   unfolding four
   given h =
@@ -56,9 +51,9 @@ given-at i run h f =
     same : (k : ℕ) → k < i + 4 - i → at (part i (i + 4) run) k % 1024 ≡ at run (i + k) % 1024
     same k b = ap (λ (n : ℕ). n % 1024) (at_part i (i + 4) run k b)
 
--- four numbers joined, nothing of which is shifted out
+-- four numbers joined
 abbrev pub four_of : ℕ → ℕ → ℕ → ℕ → ℕ
-four_of a b c d = a + up 16 b + up 32 c + up 48 d
+four_of a b c d = a + b * 2 ^ 16 + c * 2 ^ 32 + d * 2 ^ 48
 
 module _ {a b c d : ℕ} (p : a < 2 ^ 16) (q : b < 2 ^ 16) (r : c < 2 ^ 16) (s : d < 2 ^ 16) where
   first_of : sample_of (four_of a b c d) 0 ≡ a

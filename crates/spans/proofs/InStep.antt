@@ -2,28 +2,16 @@
 use mathlib.Core.Path.{◌≡◌, refl, sym, ap, ap₂, subst, ◌∙◌}
 use mathlib.Core.Bool.{Bool, true, false, ◌&&◌, ◌||◌, true≢false}
 use mathlib.Core.List.{List}
-use mathlib.Core.Logic.{⊎_elim}
-use Prim.Native.Nat.{ℕ, ◌+◌, ◌-◌, ◌%◌, ◌<◌, ◌≤◌, min}
+use Prim.Native.Nat.{ℕ, ◌+◌, ◌%◌, ◌≤◌, min}
 use native.Mathlib.Nat.{add-zero}
 use native.Mathlib.Omega.{arith}
 use lib.Dec.{leb, eqb}
 use lib.ListN.{length}
-use borrow.Author.Tests.{le-leb, lt-leb, leb-true, eq-eqb, eqb-true}
+use borrow.Author.Tests.{le-leb, leb-true, eq-eqb, eqb-true}
 use Rattle.runs.specs.Runs.{painted, between}
-use Rattle.runs.proofs.Between.{lt_or_ge, between_empty, between_join}
+use Rattle.runs.proofs.Between.{between_empty, between_join}
 use Rattle.runs.proofs.Painting.{length-painted, painted_none, painted_cong, painted-over, painted_on}
 use Rattle.spans.specs.inner.Spans.{looked_up, FourWithin, four_lie, in_four, in_step}
-
--- ---- whether a stretch ends within so many places: no sum is made
-module _ (start n places : ℕ) where
-  pub too_long : places < n → false ≡ leb (start + n) places
-  too_long h = let k : places < start + n = omega arith in sym (lt-leb (start + n) places k)
-
-  pub by_difference : n ≤ places → leb start (places - n) ≡ leb (start + n) places
-  by_difference h = ⊎_elim
-      (λ u. lt-leb start (places - n) u ∙ sym (lt-leb (start + n) places (omega arith)))
-      (λ u. le-leb start (places - n) u ∙ sym (le-leb (start + n) places (omega arith)))
-      (lt_or_ge (places - n) start)
 
 both : (a b : Bool) → (a && b) ≡ true → (a ≡ true) × (b ≡ true)
 both true b h = (refl, h)

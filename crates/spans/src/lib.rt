@@ -1,20 +1,14 @@
 // Loops over whole slices: samples looked up in a table, and the bits of six runs joined. A table has a place for every
-// index that a loop can ask for, so that nothing is asked of the samples.
+// index that a loop can ask for, so that nothing is asked of the samples. Table and base are handed on one by one: a struct of
+// these two references would make no line shorter, and each clause longer.
 #![tactic(auto)]
 
 pub mod apart; // stretches that stand apart, in step
 
-ghost use Rattle.std.specs.Prelude.{◌≡◌, ◌+◌, ◌<◌, ◌≤◌, min, length};
+ghost use Rattle.std.specs.Prelude.{◌≡◌, ◌+◌, ◌*◌, ◌^◌, ◌<◌, ◌≤◌, length};
 ghost use Rattle.runs.specs.Runs.{painted, between};
 ghost use Rattle.runs.specs.inner.Loops.{below};
-ghost use Rattle.spans.specs.inner.Spans.{entry, looked_up, four, put_four, Given, Joins, places_of_six, joined_six};
-
-// The lesser of two lengths.
-pub fn least(a: usize, b: usize) -> usize
-    ensures { result ≡ min a b }
-{
-    if a < b { a } else { b }
-}
+ghost use Rattle.spans.specs.inner.Spans.{entry, looked_up, four, put_four, Given, Joins, joined_six};
 
 fn looked_up(table: &[u16; 1024], base: &[u16], i: usize) -> u16
     requires { i < length base.now }
@@ -23,6 +17,13 @@ fn looked_up(table: &[u16; 1024], base: &[u16], i: usize) -> u16
     let s = base[i];
     let v = table[(s % 1024) as usize];
     v
+}
+
+// Of four samples one number, the first one lowest.
+fn join(a: u16, b: u16, c: u16, d: u16) -> u64
+    ensures { result ≡ a + b * 2 ^ 16 + c * 2 ^ 32 + d * 2 ^ 48 }
+{
+    (((a as u64) + ((b as u64) << 16)) + ((c as u64) << 32)) + ((d as u64) << 48)
 }
 
 // Four samples as one number, the first one lowest: the compiler makes one load of them. Where there are no four, 0: a caller
@@ -34,8 +35,7 @@ pub fn four(part: &[u16]) -> u64
     if part.len() < 4 {
         return 0;
     }
-    (((part[0] as u64) + ((part[1] as u64) << 16)) + ((part[2] as u64) << 32))
-        + ((part[3] as u64) << 48)
+    join(part[0], part[1], part[2], part[3])
 }
 
 // Stores a number as four samples, the lowest first: the compiler makes one store of them. Where there are no four places,
@@ -69,7 +69,7 @@ fn looked_up_four(table: &[u16; 1024], base: &[u16], i: usize) -> u64
     let b = entry_of(table, w >> 16);
     let c = entry_of(table, w >> 32);
     let d = entry_of(table, w >> 48);
-    (((a as u64) + ((b as u64) << 16)) + ((c as u64) << 32)) + ((d as u64) << 48)
+    join(a, b, c, d)
 }
 
 // Eight samples, stored after all their loads.
@@ -88,28 +88,14 @@ fn look_up_eight(table: &[u16; 1024], base: &[u16], i: usize, output: &mut [u16]
 pub fn look_up(table: &[u16; 1024], base: &[u16], output: &mut [u16])
     ensures { output.new ≡ painted (below (length base.now)) (looked_up table.now base.now) output.old }
 {
-    let n = least(base.len(), output.len());
+    let n = base.len().min(output.len());
     let turns = n / 8;
-    let mut t = 0;
-    while t < turns {
+    for t in 0..turns {
         look_up_eight(table, base, 8 * t, output);
-        t += 1;
     }
-    let mut i = 8 * turns;
-    while i < n {
+    for i in 8 * turns..n {
         output[i] = looked_up(table, base, i);
-        i += 1;
     }
-}
-
-// How many places all of six runs have.
-fn places_of_six(a: &[u16], b: &[u16], c: &[u16], d: &[u16], e: &[u16], f: &[u16]) -> usize
-    ensures { result ≡ places_of_six a.now b.now c.now d.now e.now f.now }
-{
-    least(
-        least(a.len(), b.len()),
-        least(least(c.len(), d.len()), least(e.len(), f.len())),
-    )
 }
 
 // Every bit that some sample of six runs has: whether one reaches a power of two. Six runs in step are loaded faster
@@ -117,12 +103,13 @@ fn places_of_six(a: &[u16], b: &[u16], c: &[u16], d: &[u16], e: &[u16], f: &[u16
 pub fn joined_six(a: &[u16], b: &[u16], c: &[u16], d: &[u16], e: &[u16], f: &[u16]) -> u16
     ensures { result ≡ joined_six a.now b.now c.now d.now e.now f.now }
 {
-    let n = places_of_six(a, b, c, d, e, f);
+    let first = a.len().min(b.len());
+    let second = c.len().min(d.len());
+    let third = e.len().min(f.len());
+    let n = first.min(second.min(third));
     let mut bits: u16 = 0;
-    let mut i = 0;
-    while i < n {
-        bits = bits | ((a[i] | b[i]) | ((c[i] | d[i]) | (e[i] | f[i])));
-        i += 1;
+    for i in 0..n {
+        bits |= (a[i] | b[i]) | ((c[i] | d[i]) | (e[i] | f[i]));
     }
     bits
 }

@@ -2,11 +2,10 @@
 use mathlib.Core.Path.{◌≡◌, refl, ap}
 use mathlib.Core.Bool.{Bool, true, false, cond}
 use mathlib.Core.List.{List, [], ◌∷◌}
-use Prim.Native.Nat.{ℕ, zero, suc, ◌+◌, ◌*◌, ◌<◌, ◌≤◌, min}
-use native.Mathlib.Nat.{le_trans, lt_of_lt_of_le, mul-zero, mul-one}
+use Prim.Native.Nat.{ℕ, zero, suc, ◌+◌, ◌<◌, ◌≤◌, min}
+use native.Mathlib.Nat.{le_trans, lt_of_lt_of_le}
 use native.Mathlib.Omega.{arith}
 use lib.Dec.{leb}
-use mir.Val.{bool_byte}
 use borrow.Author.Tests.{leb-true, leb-false}
 use Rattle.runs.specs.inner.Loops.{at}
 use Rattle.runs.proofs.Tables.{at_table}
@@ -20,15 +19,7 @@ use Rattle.steps.specs.inner.Steps.{pivot_table, passed, halved, halves, found, 
 pub table_rises : (preds : List ℕ) → Rising (at (pivot_table preds))
 table_rises preds i k h b = rw (at_table pivot_places _ i (omega arith), at_table pivot_places _ k b) (omega (arith, rising (at preds) i k h))
 
--- ---- the comparisons of the code: each is 1 or 0, and one comes after the other
-pub as_number : (t : Bool) (low half : ℕ) → low + half * bool_byte t ≡ cond t (low + half) low
-as_number true low half = ap (λ (n : ℕ). low + n) (mul-one half)
-as_number false low half = omega (arith, mul-zero half)
-
-pub number_le : (t : Bool) (half : ℕ) → half * bool_byte t ≤ half
-number_le true half = omega (arith, mul-one half)
-number_le false half = omega (arith, mul-zero half)
-
+-- ---- the comparisons of the code, one after the other
 module _ (pivot : ℕ → ℕ) (n s : ℕ) where
   pub by_one : n ≡ 0 → passed pivot s 0 1 ≡ found pivot n s
   unfolding found halved

@@ -11,30 +11,16 @@ ghost use Rattle.steps.specs.inner.Steps.{Rising, pivot_table, passed, found, cu
 
 use plan::limits::PIVOTS;
 
-fn wide(x: u16) -> u32
-    ensures { (result ≡ x) × (result ≤ 65535) }
-{
-    x as u32
-}
-
-// A larger sum is the largest number of 16 bits: one that wrapped would be a pivot below the one before it.
-fn narrow(sum: u32) -> u16
-    ensures { result ≡ min sum 65535 }
-{
-    if sum < 65535 { sum as u16 } else { 65535 }
-}
-
-// The pivots, each the sum of the predictions up to it, in 16 bits. Predictions past the last pivot are 0.
+// The pivots, each the sum of the predictions up to it, in 16 bits. A larger sum is the largest number of 16 bits: one that
+// wrapped would be a pivot below the one before it. Predictions past the last pivot are 0.
 pub fn pivots_of(preds: [u16; PIVOTS]) -> [u16; PIVOTS]
     ensures { result ≡ pivot_table preds }
 {
     let mut pivots = [0u16; PIVOTS];
     let mut sum: u32 = 0;
-    let mut i = 0;
-    while i < PIVOTS {
-        sum += wide(preds[i]);
-        pivots[i] = narrow(sum);
-        i += 1;
+    for (i, pred) in preds.iter().enumerate() {
+        sum += u32::from(*pred);
+        pivots[i] = sum.min(65535) as u16;
     }
     pivots
 }
@@ -45,7 +31,7 @@ fn passed(pivots: &[u16; PIVOTS], s: u16, low: usize, half: usize) -> usize
     requires { low + half < pivot_places }
     ensures { (result ≡ passed (at pivots.now) s low half) × (result ≤ low + half) }
 {
-    low + half * ((pivots[low + half] <= s) as usize)
+    low + half * usize::from(pivots[low + half] <= s)
 }
 
 // The piece of a sample that is not clamped yet: the first whose next pivot is greater, or n + 1. Pivots rise, so it is the
@@ -64,6 +50,7 @@ pub fn piece_of(pivots: &[u16; PIVOTS], n: usize, s: u16) -> usize
     let by_two = passed(pivots, s, by_four, 2);
     let by_one = passed(pivots, s, by_two, 1);
     let all = passed(pivots, s, by_one, 1);
+    // the lesser of it and n + 1, which is not made where it could wrap
     if all <= n { all } else { n + 1 }
 }
 
@@ -71,14 +58,7 @@ pub fn piece_of(pivots: &[u16; PIVOTS], n: usize, s: u16) -> usize
 pub fn clamp(first: u16, last: u16, s: u16) -> u16
     ensures { result ≡ clamped first last s }
 {
-    let mut t = s;
-    if t < first {
-        t = first;
-    }
-    if last < t {
-        t = last;
-    }
-    t
+    s.max(first).min(last)
 }
 
 // A sum is not below 0, is shifted by 4 + d, and is cut at 65,535.
@@ -88,9 +68,6 @@ pub fn cut_at(d: u8, v: i64) -> u16
     if v < 0 {
         return 0;
     }
-    let q = (v as u64) >> ((4 + (d as u32)) % 64);
-    if q > 65535 {
-        return 65535;
-    }
-    q as u16
+    let q = (v as u64) >> ((4 + u32::from(d)) % 64);
+    q.min(65535) as u16
 }

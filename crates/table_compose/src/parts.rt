@@ -7,7 +7,6 @@ ghost use Rattle.picture.specs.Picture.{in_pairs};
 ghost use Rattle.rules.specs.Rules.{extent};
 ghost use Rattle.table_compose.specs.inner.ByTable.{Lent, Enhanced, in_not_full, plain_sample, enhanced_sample};
 
-use picture::planes_of;
 use plan::{Header, Nlq};
 use planes::{enhanced_plane, plain_plane};
 use residual::cut_numbers;
@@ -26,7 +25,7 @@ pub(crate) fn plain_planes(
     requires { Lent h r table.now base.now output.old }
     ensures { output.new ≡ painted (in_not_full h r marks.now) (plain_sample h table.now base.now) output.old }
 {
-    let p = planes_of(extent_of(h));
+    let p = extent_of(h).planes();
     let codes = table.len() / 3;
     plain_plane(h, &table[0..codes], p.y, r, marks, base, output);
     plain_plane(h, &table[codes..2 * codes], p.cb, r, marks, base, output);
@@ -68,7 +67,7 @@ pub(crate) fn enhanced_planes(
     requires enhanced { Enhanced h r y cb cr enhancement.now }
     ensures { output.new ≡ painted (in_pairs (extent h) r.first r.last) (enhanced_sample h y cb cr table.now base.now enhancement.now) output.old }
 {
-    let p = planes_of(extent_of(h));
+    let p = extent_of(h).planes();
     let cut = cut_numbers(h);
     let codes = table.len() / 3;
     let luma = table_of(&table[0..codes]);

@@ -40,7 +40,6 @@ use Rattle.calls.specs.promises.chroma_size as chroma_size_promise
 use Rattle.calls.specs.promises.picture_picture_size as picture_size_promise
 use Rattle.calls.specs.promises.rules_refusal_of as refusal_of_promise
 use Rattle.calls.specs.promises.quantizes as quantizes_promise
-use Rattle.calls.specs.promises.least as least_promise
 use Rattle.calls.specs.promises.plain_planes as plain_planes_promise
 use Rattle.calls.specs.promises.enhanced_planes as enhanced_planes_promise
 use Rattle.calls.specs.promises.speed_write as speed_write_promise
@@ -79,7 +78,7 @@ pub record LeavesSettled : Type 0 where
   pub four_put : OneContent put_four_promise.Post (λ c. c.left.1.0.now)
   pub looked_up_output : OneContent look_up_promise.Post (λ c. c.left.1.1.0.now)
   pub looked_up_in_step : OneContent look_up_in_step_promise.Post (λ c. c.left.1.1.1.1.1.1.1.0.now)
-  pub summed : OneContent sum_up_promise.Post (λ c. c.left.1.1.1.1.0.now)
+  pub summed : OneContent sum_up_promise.Post (λ c. c.left.1.1.1.1.1.0.now)
   pub lowered_output : OneContent lower_all_promise.Post (λ c. c.left.1.1.0.now)
   pub cut_out : OneAnswer cut_out_promise.Post
   pub looked_up_rows : OneContent look_up_rows_promise.Post (λ c. c.left.1.1.1.1.1.0.now)
@@ -110,7 +109,6 @@ pub record LeavesSettled : Type 0 where
   pub picture_size : OneAnswer picture_size_promise.Post
   pub refusal_of : OneAnswer refusal_of_promise.Post
   pub quantizes : OneAnswer quantizes_promise.Post
-  pub least : OneAnswer least_promise.Post
   pub plain_planes : OneContent plain_planes_promise.Post (λ c. c.left.1.1.1.1.0.now)
   pub enhanced_planes : OneContent enhanced_planes_promise.Post (λ c. c.left.1.1.1.1.0.now)
   pub speed_write : OneAnswer speed_write_promise.Post

@@ -1,4 +1,4 @@
--- rows::add_up_rows(mapped, raised, cut, p, r, base, enhancement, output)
+-- rows::add_up_rows(Tables { mapped, raised, cut }, p, r, base, enhancement, output)
 use Rattle.calls.specs.Lent.{Lent}
 use Rattle.picture.specs.declared.Plane.{Plane}
 use Rattle.rows.specs.declared.Rows.{Rows}

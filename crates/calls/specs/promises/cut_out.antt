@@ -1,4 +1,4 @@
--- sums::cut_out(cut, v, r)
+-- sums::Cut::cut_out(cut, v, r)
 use Rattle.std.specs.Prelude.{ℕ, ◌+◌, ◌≡◌}
 use Rattle.sums.specs.declared.Cut.{Cut}
 use Rattle.sums.specs.inner.Sums.{cut_of}

@@ -1,4 +1,4 @@
--- picture::lies(p, first, last, n)
+-- picture::Plane::lies(p, first, last, n)
 use Rattle.picture.specs.declared.Plane.{Plane}
 use Rattle.picture.specs.inner.Planes.{lies}
 use Rattle.std.specs.Prelude.{Bool, ℕ, ◌≡◌}

@@ -1,4 +1,4 @@
--- spans::apart::look_up_in_step(table, a, b, c, d, n, base, output)
+-- spans::apart::look_up_in_step(table, Stretches { a, b, c, d, n }, base, output)
 use Rattle.calls.specs.Lent.{Lent}
 use Rattle.spans.specs.inner.Spans.{in_step}
 use Rattle.std.specs.Prelude.{List, ℕ, ◌≡◌}

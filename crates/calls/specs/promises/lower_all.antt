@@ -1,4 +1,4 @@
--- sums::passes::lower_all(cut, sums, output)
+-- sums::Cut::lower_all(cut, sums, output)
 use Rattle.calls.specs.Lent.{Lent}
 use Rattle.runs.specs.Runs.{painted}
 use Rattle.runs.specs.inner.Loops.{below}

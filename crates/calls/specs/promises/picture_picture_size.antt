@@ -1,4 +1,4 @@
--- picture::picture_size(e)
+-- picture::Extent::picture_size(e)
 use Rattle.picture.specs.Picture.{picture_size}
 use Rattle.picture.specs.declared.Extent.{Extent}
 use Rattle.std.specs.Prelude.{ℕ, ◌≡◌}

@@ -1,4 +1,4 @@
--- picture::planes_of(e)
+-- picture::Extent::planes(e)
 use Rattle.picture.specs.declared.Extent.{Extent}
 use Rattle.picture.specs.declared.Planes.{Planes}
 use Rattle.picture.specs.inner.Planes.{planes}

@@ -10,20 +10,21 @@ use Rattle.runs.proofs.Counting.{tally_more}
 use Rattle.marks.specs.inner.Marks.{has}
 use Rattle.marks.proofs.count.Goals as goal
 
-pub loop-k-init : goal.loop-k-init
+pub loop-mark-init : goal.loop-mark-init
 unfolding tally
-loop-k-init c = (omega arith, (refl, omega arith))
+loop-mark-init c = (refl, omega arith)
 
-pub loop-k-preserved : goal.loop-k-preserved
-loop-k-preserved c =
+pub loop-mark-preserved : goal.loop-mark-preserved
+loop-mark-preserved c =
     let m = c.args.marks.now in
     let v = c.args.value in
-    let more = tally_more (has v) m c.loop-k.k (omega arith) in
-    elim c.if-marks-k.branch [
-      | goal.then-marks-k w ↦ let t : has v (get_or m c.loop-k.k 0) ≡ true = eq-eqb _ v w.if-marks-k.true in (omega arith, (rw (add-one, more, t) (omega arith), omega arith))
-      | goal.else-marks-k w ↦ let t : has v (get_or m c.loop-k.k 0) ≡ false = ne_eqb _ v w.if-marks-k.false in (omega arith, (rw (add-one, more, t) (omega arith), omega arith))
+    let i = c.loop-mark.mark-index in
+    let more = tally_more (has v) m i (omega arith) in
+    elim c.if-mark-value.branch [
+      | goal.then-mark-value w ↦ let t : has v (get_or m i 0) ≡ true = eq-eqb _ v w.if-mark-value.true in (rw (add-one, more, t) (omega arith), omega arith)
+      | goal.else-mark-value w ↦ let t : has v (get_or m i 0) ≡ false = ne_eqb _ v w.if-mark-value.false in (rw (add-one, more, t) (omega arith), omega arith)
     ]
 
 pub returns : goal.returns
 returns c =
-    c.loop-k.invariant.1.0 ∙ ap (tally (has c.args.value)) (take_all c.loop-k.k c.args.marks.now (omega arith))
+    c.loop-mark.invariant.0 ∙ ap (tally (has c.args.value)) (take_all c.loop-mark.mark-index c.args.marks.now (omega arith))

@@ -1,13 +1,17 @@
 use mathlib.Core.Path.{sym, ap}
 use borrow.Author.Rules.{rules}
-use lib.ListN.{get_or-eq_default}
+use native.Mathlib.Omega.{arith}
+use Prim.Native.Nat.{◌≤◌}
+use lib.ListN.{length, get_or-eq_default}
 use Rattle.marks.specs.Marks.{full, full_at}
 use Rattle.marks.proofs.is_full.Goals as goal
 
-pub returns-then-k-marks : goal.returns-then-k-marks
+pub returns-in-Some : goal.returns-in-Some
 unfolding full_at full
-returns-then-k-marks c = search rules
+returns-in-Some c = search rules
 
-pub returns : goal.returns
+pub returns-in-None : goal.returns-in-None
 unfolding full_at full
-returns c = sym (ap full (get_or-eq_default c.args.marks.now 0 c.if-k-marks.false))
+returns-in-None c =
+    let past : length c.args.marks.now ≤ c.args.k = omega (arith, c.in-None.ensures.lookup) in
+    sym (ap full (get_or-eq_default c.args.marks.now 0 past))

@@ -1,32 +1,30 @@
 use mathlib.Core.Path.{ap, ◌∙◌}
+use Prim.Native.Nat.{◌-◌}
 use native.Mathlib.Omega.{arith}
-use Rattle.runs.specs.inner.Loops.{at}
+use borrow.Rule.Slice.PartMut.{put_mid}
+use Rattle.runs.specs.inner.Loops.{at, below}
+use Rattle.runs.proofs.Between.{in_between}
 use Rattle.runs.proofs.Painting.{paint_none, paint_more, paint_part, painted_ahead}
+use Rattle.runs.proofs.Parts.{length_part, at_part, painted-part}
 use Rattle.marks.specs.inner.Marks.{based}
 use Rattle.marks.proofs.put_based.Goals as goal
 
-pub loop-k-preserved : goal.loop-k-preserved
-loop-k-preserved c =
-    let p = c.loop-k.invariant.1 in
-    let ahead = ap (λ r. at r c.loop-k.k) p.is ∙ painted_ahead _ _ _ c.args.marks.now (omega arith) in
-    (omega arith, paint_more p (omega arith) (c.based.ensures ∙ ap based ahead))
+pub loop-mark-init : goal.loop-mark-init
+loop-mark-init c = paint_none _ _ _
+
+pub loop-mark-preserved : goal.loop-mark-preserved
+loop-mark-preserved c =
+    let p = c.loop-mark.invariant in
+    let ahead = ap (λ r. at r c.loop-mark.mark-index) p.is ∙ painted_ahead _ _ _ _ (omega arith) in
+    paint_more p (omega arith) (c.based.ensures ∙ ap based ahead)
 
 pub returns : goal.returns
 returns c =
-    paint_part _ c.loop-k.invariant.1 (omega arith)
-
-pub loop-k-init : goal.loop-k-init
-loop-k-init c =
-    (omega arith, paint_none _ _ _)
-
-pub bounds-marks-k : goal.bounds-marks-k
-bounds-marks-k c =
-    omega (arith, c.loop-k.invariant.1.long)
-
-pub bounds-marks-k-in-loop-k : goal.bounds-marks-k-in-loop-k
-bounds-marks-k-in-loop-k c =
-    omega (arith, c.loop-k.invariant.1.long)
-
-pub shape_of-marks : goal.shape_of-marks
-shape_of-marks c =
-    c.loop-k.invariant.1.long
+    let a = c.args in
+    let m = a.marks.now in
+    let many = a.to - a.from in
+    let l = length_part a.from a.to m c.requires.to_in_bounds in
+    ap (put_mid a.from many m) (paint_part many c.loop-mark.invariant (omega arith))
+    ∙ painted-part a.from a.to m c.requires.from_le_to c.requires.to_in_bounds (below many) _ _
+    (λ j b. in_between 0 many j (omega arith) b)
+    (λ j b. ap based (at_part a.from a.to m j b))

@@ -1,11 +1,8 @@
-use Prim.Native.Nat.{◌-◌, ◌≤◌}
 use Rattle.runs.specs.inner.Loops.{at}
 use Rattle.runs.proofs.Painting.{PaintedFrom}
 use Rattle.marks.specs.inner.Marks.{based}
 use Rattle.marks.proofs.put_based.Given as goal
 
-abbrev pub invariant-loop-k : goal.invariant-loop-k
-invariant-loop-k l = (l.k ≤ l.to) × PaintedFrom l.from (λ i. based (at l.initial.marks i)) l.initial.marks l.k l.marks
-
-abbrev pub decreases-loop-k : goal.decreases-loop-k
-decreases-loop-k l = l.to - l.k
+abbrev pub invariant-loop-mark : goal.invariant-loop-mark
+invariant-loop-mark l =
+    PaintedFrom 0 (λ j. based (at l.initial.mark-items j)) l.initial.mark-items l.mark-index l.mark-items

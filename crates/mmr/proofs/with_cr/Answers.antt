@@ -23,7 +23,7 @@ at-planes first last n e h = subst (λ (r : Planes). RowsGiven r first last n) (
 pub compose_rows-requires : goal.compose_rows-requires
 compose_rows-requires c =
     let a = c.args in
-    let planes_are : c.planes_of-planes.result ≡ planes (extent a.plan.header) = c.planes_of-planes.ensures ∙ ap planes c.extent_of.ensures in
+    let planes_are : c.planes-planes.result ≡ planes (extent a.plan.header) = c.planes-planes.ensures ∙ ap planes c.extent_of.ensures in
     let ready : ReadySide c.args.plan.header.d c.args.plan.cr (side c.args.plan.cr.n c.pivots_of-pivots2.result c.kinds_of-kinds2.result c.rows_of-rows2.result) = record {
       arrays = (sized c.args.plan _ c.well_formed.0).cr;
       few = cr_few c.args.plan c.requires.chroma_given.ready;
@@ -42,7 +42,7 @@ pub returns : goal.returns
 unfolding chroma_painted
 returns c =
     let a = c.args in
-    let planes_are : c.planes_of-planes.result ≡ planes (extent a.plan.header) = c.planes_of-planes.ensures ∙ ap planes c.extent_of.ensures in
+    let planes_are : c.planes-planes.result ≡ planes (extent a.plan.header) = c.planes-planes.ensures ∙ ap planes c.extent_of.ensures in
     let ready : ReadySide c.args.plan.header.d c.args.plan.cr (side c.args.plan.cr.n c.pivots_of-pivots2.result c.kinds_of-kinds2.result c.rows_of-rows2.result) = record {
       arrays = (sized c.args.plan _ c.well_formed.0).cr;
       few = cr_few c.args.plan c.requires.chroma_given.ready;

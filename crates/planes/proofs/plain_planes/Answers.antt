@@ -9,12 +9,12 @@ pub returns-then-blue-red : goal.returns-then-blue-red
 unfolding plain_picture
 returns-then-blue-red c =
     -- what the calls gave
-    let placed = c.planes_of-p.ensures ∙ ap planes c.extent_of.ensures in
+    let placed = c.planes-p.ensures ∙ ap planes c.extent_of.ensures in
     let tested = both-map c.args.plan _ _ c.mapped_table-blue.ensures c.mapped_table-red.ensures in
     let a = c.args in
     let h = a.plan.header in
     rw (tested ∙ c.if-blue-red.true)
-    (in_order a.plan (plain_plane h a.r a.marks.now a.base.now) c.planes_of-p.result a.output.now _ _ _ placed
+    (in_order a.plan (plain_plane h a.r a.marks.now a.base.now) c.planes-p.result a.output.now _ _ _ placed
     (looked_by h a.plan.y _ _ _ _ _ _ _ c.plain_plane.ensures c.mapped_table-luma.ensures)
     (looked_by h a.plan.cb _ _ _ _ _ _ _ c.plain_plane-then-blue-red.ensures c.mapped_table-blue.ensures)
     (looked_by h a.plan.cr _ _ _ _ _ _ _ c.plain_plane-then-blue-red-2.ensures c.mapped_table-red.ensures))
@@ -23,11 +23,11 @@ pub returns : goal.returns
 unfolding plain_picture
 returns c =
     -- what the calls gave
-    let placed = c.planes_of-p.ensures ∙ ap planes c.extent_of.ensures in
+    let placed = c.planes-p.ensures ∙ ap planes c.extent_of.ensures in
     let tested = both-map c.args.plan _ _ c.mapped_table-blue.ensures c.mapped_table-red.ensures in
     let a = c.args in
     let h = a.plan.header in
     rw (tested ∙ c.if-blue-red.false)
-    (plain_over a.plan a.r c.planes_of-p.result a.marks.now a.base.now a.output.now _ _ placed
+    (plain_over a.plan a.r c.planes-p.result a.marks.now a.base.now a.output.now _ _ placed
     c.plain_chroma.ensures
     (looked_by h a.plan.y _ _ _ _ _ _ _ c.plain_plane-2.ensures c.mapped_table-luma.ensures))

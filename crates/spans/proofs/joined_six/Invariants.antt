@@ -1,11 +1,7 @@
 use mathlib.Core.Path.{◌≡◌}
-use Prim.Native.Nat.{◌-◌, ◌≤◌}
 use Rattle.spans.specs.inner.Spans.{bits_below, six_at}
 use Rattle.spans.proofs.joined_six.Given as goal
 
 -- `spans::joined_six` meets its contract: the bits so far are those of the places that were passed. Assumes nothing.
 abbrev pub invariant-loop-i : goal.invariant-loop-i
-invariant-loop-i l = (l.i ≤ l.n) × (l.bits ≡ bits_below (six_at l.a l.b l.c l.d l.e l.f) l.i)
-
-abbrev pub decreases-loop-i : goal.decreases-loop-i
-decreases-loop-i l = l.n - l.i
+invariant-loop-i l = l.bits ≡ bits_below (six_at l.a l.b l.c l.d l.e l.f) l.i

@@ -5,22 +5,22 @@ use Rattle.spans.proofs.look_up.Goals as goal
 
 pub loop-t-preserved : goal.loop-t-preserved
 loop-t-preserved c =
-    (omega arith, paint_turn _ c.loop-t.invariant.1 (omega arith) (omega arith) c.look_up_eight.ensures)
+    paint_turn _ c.loop-t.invariant (omega arith) (omega arith) c.look_up_eight.ensures
 
 pub loop-i-init : goal.loop-i-init
-loop-i-init c = (omega arith, paint_none _ _ _)
+loop-i-init c = paint_none _ _ _
 
 pub loop-i-preserved : goal.loop-i-preserved
 loop-i-preserved c =
-    (omega arith, paint_more c.loop-i.invariant.1 (omega arith) c.looked_up.ensures)
+    paint_more c.loop-i.invariant (omega arith) c.looked_up.ensures
 
 pub returns : goal.returns
 returns c =
-    paint_all _ (paint_from c.loop-t.invariant.1 (omega arith) c.loop-i.invariant.1) (omega arith)
+    paint_all _ (paint_from c.loop-t.invariant (omega arith) c.loop-i.invariant) (omega arith)
 
 pub loop-t-init : goal.loop-t-init
 loop-t-init c =
-    (omega arith, paint_none _ _ _)
+    paint_none _ _ _
 
 pub look_up_eight-requires : goal.look_up_eight-requires
 look_up_eight-requires c =

@@ -10,4 +10,5 @@ unfolding looked_up
 returns c =
     let g = given-at c.args.i c.args.base.now c.requires c.four-w.ensures.gives in
     let table = at c.args.table.now in
-    joins c.entry_of-a.type_inv c.entry_of-b.type_inv c.entry_of-c.type_inv c.entry_of-d.type_inv c.args.i (looked_up c.args.table.now c.args.base.now) (c.entry_of-a.ensures ∙ ap table g.first) (c.entry_of-b.ensures ∙ ap table g.second) (c.entry_of-c.ensures ∙ ap table g.third) (c.entry_of-d.ensures ∙ ap table g.fourth)
+    rw c.join.ensures
+    (joins c.entry_of-a.type_inv c.entry_of-b.type_inv c.entry_of-c.type_inv c.entry_of-d.type_inv c.args.i (looked_up c.args.table.now c.args.base.now) (c.entry_of-a.ensures ∙ ap table g.first) (c.entry_of-b.ensures ∙ ap table g.second) (c.entry_of-c.ensures ∙ ap table g.third) (c.entry_of-d.ensures ∙ ap table g.fourth))

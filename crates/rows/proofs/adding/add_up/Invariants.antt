@@ -1,4 +1,4 @@
-use Prim.Native.Nat.{◌-◌, ◌≤◌}
+use Prim.Native.Nat.{min, ◌-◌}
 use mathlib.Core.Path.{◌≡◌}
 use lib.ListN.{length}
 use Rattle.runs.proofs.Painting.{PaintedFrom}
@@ -8,7 +8,10 @@ use Rattle.rows.proofs.adding.add_up.Given as goal
 
 -- `rows::adding::add_up` meets its contract: the parts so far are painted, each summed and then lowered. Assumes nothing.
 abbrev pub invariant-loop-i : goal.invariant-loop-i
-invariant-loop-i l = (l.i ≤ l.n) × (length l.sums ≡ part_places) × PaintedFrom l.initial.i (added_up l.mapped l.raised l.cut l.base l.enhancement) l.initial.output l.i l.output
+invariant-loop-i l = record {
+  places : length l.sums ≡ part_places;
+  painted : PaintedFrom 0 (added_up l.tables.mapped.now l.tables.raised.now l.tables.cut l.base l.enhancement) l.initial.output (min l.i l.n) l.output;
+}
 
 abbrev pub decreases-loop-i : goal.decreases-loop-i
 decreases-loop-i l = l.n - l.i

@@ -3,4 +3,4 @@ use Rattle.rows.proofs.each.add_up_row.Goals as goal
 
 -- `rows::each::add_up_row` meets its contract. Assumes nothing.
 pub returns : goal.returns
-returns c = record { adds = added_up-row c.args.p c.args.k _ _ _ c.requires.in_plane.0 c.requires.in_plane.1.1 _ _ _ _ c.requires.in_plane.1.0 c.add_up.ensures.adds; places = c.add_up.ensures.places }
+returns c = added_up-row c.args.p c.args.k _ _ _ c.requires.0 c.requires.1.1 _ _ _ _ c.requires.1.0 c.add_up.ensures

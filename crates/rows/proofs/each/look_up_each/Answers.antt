@@ -1,7 +1,4 @@
-use mathlib.Core.Path.{ap, ◌∙◌}
 use native.Mathlib.Omega.{arith}
-use lib.ListN.{length}
-use Rattle.runs.proofs.Painting.{length-painted}
 use Rattle.marks.specs.inner.Marks.{not_full}
 use Rattle.marks.proofs.Keeping.{none_yet, not_full_join}
 use Rattle.rows.proofs.Lending.{rows_begun, rows_joined, rows_from, rows_from_painted, rows_ended}
@@ -11,10 +8,6 @@ pub loop-k-init : goal.loop-k-init
 loop-k-init c =
     (omega arith, (c.requires.0.forward, rows_begun _ _ _ _ (none_yet _ _)))
 
-pub loop-k-smaller : goal.loop-k-smaller
-loop-k-smaller c =
-    omega (arith, c.look_up_next-k.ensures.on)
-
 pub look_up_next-k-requires : goal.look_up_next-k-requires
 look_up_next-k-requires c = record { k_lt_last = c.loop-k-test.true; in_plane = (rows_from _ _ _ _ c.requires.0 _ c.loop-k-test.true, rows_from_painted _ _ _ _ _ _ _ c.requires.1 c.loop-k.invariant.1.1 _ c.loop-k-test.true) }
 
@@ -23,9 +16,6 @@ loop-k-preserved c =
     let from = c.loop-k.invariant.0 in
     let on = c.look_up_next-k.ensures.on in
     (omega (arith, on.0), (on.1, rows_joined _ _ _ _ _ _ c.loop-k.invariant.1.1 _ _ (not_full_join _ c.args.marks.now _ _ from (omega (arith, on.0))) c.look_up_next-k.ensures.paints))
-
-pub shape_of-output : goal.shape_of-output
-shape_of-output c = ap length c.loop-k.invariant.1.1 ∙ length-painted _ _ _
 
 pub returns : goal.returns
 returns c =

@@ -8,8 +8,8 @@ use Rattle.table_compose.proofs.parts.enhanced_planes.Goals as goal
 pub returns : goal.returns
 returns c =
     let a = c.args in
-    enhanced-written a.h a.r a.table.now a.base.now a.output.now c.requires.lent a.enhancement.now c.planes_of-p.result c.cut_numbers-cut.result _ a.y a.cb a.cr _ _ _ _ _ _
-    c.requires.enhanced (c.planes_of-p.ensures ∙ ap planes c.extent_of.ensures) c.cut_numbers-cut.ensures (third a.h a.r a.table.now a.base.now a.output.now c.requires.lent)
+    enhanced-written a.h a.r a.table.now a.base.now a.output.now c.requires.lent a.enhancement.now c.planes-p.result c.cut_numbers-cut.result _ a.y a.cb a.cr _ _ _ _ _ _
+    c.requires.enhanced (c.planes-p.ensures ∙ ap planes c.extent_of.ensures) c.cut_numbers-cut.ensures (third a.h a.r a.table.now a.base.now a.output.now c.requires.lent)
     (record { is = c.table_of-luma.ensures.is; low = c.table_of-luma.ensures.low })
     (record { is = c.table_of-blue.ensures.is; low = c.table_of-blue.ensures.low })
     (record { is = c.table_of-red.ensures.is; low = c.table_of-red.ensures.low })

@@ -8,8 +8,8 @@ use Rattle.table_compose.proofs.parts.plain_planes.Goals as goal
 pub returns : goal.returns
 returns c =
     let a = c.args in
-    plain_written a.h a.r a.table.now a.base.now a.output.now c.requires a.marks.now c.planes_of-p.result _ _ _ _
-    (c.planes_of-p.ensures ∙ ap planes c.extent_of.ensures) (third a.h a.r a.table.now a.base.now a.output.now c.requires)
+    plain_written a.h a.r a.table.now a.base.now a.output.now c.requires a.marks.now c.planes-p.result _ _ _ _
+    (c.planes-p.ensures ∙ ap planes c.extent_of.ensures) (third a.h a.r a.table.now a.base.now a.output.now c.requires)
     c.plain_plane.ensures c.plain_plane-2.ensures c.plain_plane-3.ensures
 
 pub overflow_mul-codes : goal.overflow_mul-codes

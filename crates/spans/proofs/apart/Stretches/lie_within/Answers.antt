@@ -1,9 +1,9 @@
 use mathlib.Core.Path.{ap₂}
 use mathlib.Core.Bool.{◌&&◌}
 use Rattle.spans.specs.inner.Spans.{four_lie}
-use Rattle.spans.proofs.apart.four_lie.Goals as goal
+use Rattle.spans.proofs.apart.Stretches.lie_within.Goals as goal
 
--- `spans::apart::four_lie` meets its contract. Assumes nothing.
+-- `spans::apart::Stretches::lie_within` meets its contract. Assumes nothing.
 pub returns : goal.returns
 unfolding four_lie
 returns c =

@@ -1,4 +1,4 @@
-use Rattle.picture.proofs.planes_of.Goals as goal
+use Rattle.picture.proofs.Extent.planes.Goals as goal
 
 pub returns : goal.returns
 returns c =
