@@ -12,7 +12,7 @@ use Rattle.plan.specs.Rule7.{piece_places}
 use Rattle.steps.specs.inner.Steps.{Rising}
 use Rattle.mmr.specs.declared.format.Format.{Format}
 use Rattle.mmr.specs.declared.kind.Kind.{Kind}
-use Rattle.mmr.specs.declared.kind.Kind.TheVariants.{Polynomial, Narrow, Wide, Broken}
+use Rattle.mmr.specs.declared.kind.Kind.TheVariants.{Polynomial, Mmr, Broken}
 use Rattle.mmr.specs.declared.ready.Ready.{Ready}
 use Rattle.mmr.specs.inner.Apart.{coef}
 use Rattle.mmr.specs.inner.Terms.{Agreed}
@@ -36,8 +36,7 @@ module _ {d : ℕ} (c : Ready) (g : SideGiven d c) (s : ℕ) {p : ℕ} (e : Sear
 agreed_piece : (order d : ℕ) (kind : Kind) (row : List ℤ) (t : ℕ) (ts us : List ℕ) → Agreed (7 * order + 1) ts us → piece_value order d kind row t ts ≡ piece_value order d kind row t us
 unfolding piece_value
 agreed_piece order d Polynomial row t ts us a = refl
-agreed_piece order d Narrow row t ts us a = ap (cut d) (sum_cong (coef row) (at ts) (at us) (7 * order + 1) a.same)
-agreed_piece order d Wide row t ts us a = ap (cut d) (sum_cong (coef row) (at ts) (at us) (7 * order + 1) a.same)
+agreed_piece order d (Mmr width) row t ts us a = ap (cut d) (sum_cong (coef row) (at ts) (at us) (7 * order + 1) a.same)
 agreed_piece order d Broken row t ts us a = refl
 
 -- it maps the sample, also where the order is said otherwise

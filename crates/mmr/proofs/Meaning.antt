@@ -27,7 +27,8 @@ use Rattle.steps.specs.inner.Steps.{pivot_table}
 use Rattle.steps.proofs.Small.{pivot-at}
 use Rattle.mmr.specs.inner.Apart.{coef, whole_sum, narrow_most, wide_most}
 use Rattle.mmr.specs.inner.Luma.{row_from, luma_beside}
-use Rattle.mmr.specs.declared.kind.Kind.TheVariants.{Polynomial, Narrow, Wide}
+use Rattle.mmr.specs.declared.kind.Kind.TheVariants.{Polynomial, Mmr}
+use Rattle.mmr.specs.declared.kind.Width.TheVariants.{Narrow, Wide}
 use Rattle.mmr.specs.inner.Steps.{piece_at, piece_value}
 use Rattle.mmr.specs.inner.Columns.{code_of}
 use Rattle.mmr.specs.inner.Ready.{row_within, kind_by, kind_of, mapped_chroma}
@@ -92,7 +93,7 @@ module _ (k : ℕ) (h : Header) (q : Piece) (g : PieceFacts k h q) (f : HeaderFa
   unfolding kind_by piece_value
   mmr_value z t ts = rw (z, rw z at (within (wide_most h.d) (wide-limit z))) (either (row_within narrow_most (7 * (q.order + 1) + 1) q.row))
     where
-      either : (u : Bool) → piece_value 3 h.d (cond u Narrow Wide) q.row t ts ≡ cut h.d (whole_sum (coef q.row) (at ts) 22)
+      either : (u : Bool) → piece_value 3 h.d (cond u (Mmr Narrow) (Mmr Wide)) q.row t ts ≡ cut h.d (whole_sum (coef q.row) (at ts) 22)
       either true = refl
       either false = refl
 

@@ -25,7 +25,8 @@ use Rattle.steps.specs.inner.Steps.{pivot_table}
 use Rattle.steps.proofs.Halving.{table_rises}
 use Rattle.mmr.specs.inner.Apart.{coef, whole_sum, narrow_most, wide_most}
 use Rattle.mmr.specs.declared.kind.Kind.{Kind}
-use Rattle.mmr.specs.declared.kind.Kind.TheVariants.{Polynomial, Narrow, Wide, Broken}
+use Rattle.mmr.specs.declared.kind.Kind.TheVariants.{Polynomial, Mmr, Broken}
+use Rattle.mmr.specs.declared.kind.Width.TheVariants.{Narrow, Wide}
 use Rattle.mmr.specs.declared.ready.Ready.{Ready}
 use Rattle.mmr.specs.inner.Steps.{row_of, kind_at, piece_at, piece_value, mapped_side}
 use Rattle.mmr.specs.inner.Given.{SideGiven}
@@ -35,7 +36,7 @@ use Rattle.mmr.proofs.Meeting.{sum_zeros}
 
 -- ---- what a kind says of its piece
 abbrev by_tests : Bool → Bool → Bool → Bool → Kind
-by_tests a b n w = cond a (cond n Polynomial Broken) (cond b (cond n Narrow (cond w Wide Broken)) Broken)
+by_tests a b n w = cond a (cond n Polynomial Broken) (cond b (cond n (Mmr Narrow) (cond w (Mmr Wide) Broken)) Broken)
 
 of_polynomial : (a b n w : Bool) → by_tests a b n w ≡ Polynomial → n ≡ true
 of_polynomial true b true w q = refl
@@ -45,7 +46,7 @@ of_polynomial false true false true q = cc
 of_polynomial false true false false q = cc
 of_polynomial false false n w q = cc
 
-of_narrow : (a b n w : Bool) → by_tests a b n w ≡ Narrow → (b ≡ true) × (n ≡ true)
+of_narrow : (a b n w : Bool) → by_tests a b n w ≡ Mmr Narrow → (b ≡ true) × (n ≡ true)
 of_narrow true b true w q = absurd (cc)
 of_narrow true b false w q = absurd (cc)
 of_narrow false true true w q = (refl, refl)
@@ -53,7 +54,7 @@ of_narrow false true false true q = absurd (cc)
 of_narrow false true false false q = absurd (cc)
 of_narrow false false n w q = absurd (cc)
 
-of_wide : (a b n w : Bool) → by_tests a b n w ≡ Wide → (b ≡ true) × (w ≡ true)
+of_wide : (a b n w : Bool) → by_tests a b n w ≡ Mmr Wide → (b ≡ true) × (w ≡ true)
 of_wide true b true w q = absurd (cc)
 of_wide true b false w q = absurd (cc)
 of_wide false true true w q = absurd (cc)
@@ -69,11 +70,11 @@ module _ (d : ℕ) (q : Piece) where
   unfolding kind_by
   polynomial-row e = of_polynomial (eqb q.idc 0) (eqb q.idc 1) (row_within narrow_most used q.row) (row_within (wide_most d) used q.row) e
 
-  pub narrow-row : kind_of d q ≡ Narrow → (eqb q.idc 1 ≡ true) × (row_within narrow_most used q.row ≡ true)
+  pub narrow-row : kind_of d q ≡ Mmr Narrow → (eqb q.idc 1 ≡ true) × (row_within narrow_most used q.row ≡ true)
   unfolding kind_by
   narrow-row e = of_narrow (eqb q.idc 0) (eqb q.idc 1) (row_within narrow_most used q.row) (row_within (wide_most d) used q.row) e
 
-  pub wide_row : kind_of d q ≡ Wide → (eqb q.idc 1 ≡ true) × (row_within (wide_most d) used q.row ≡ true)
+  pub wide_row : kind_of d q ≡ Mmr Wide → (eqb q.idc 1 ≡ true) × (row_within (wide_most d) used q.row ≡ true)
   unfolding kind_by
   wide_row e = of_wide (eqb q.idc 0) (eqb q.idc 1) (row_within narrow_most used q.row) (row_within (wide_most d) used q.row) e
 
@@ -128,8 +129,8 @@ module _ (d : ℕ) (c : Component) (s : Ready) (g : ReadySide d c s) where
         rising = rw g.pivots (table_rises c.preds);
         row = λ p. record {
           polynomial = coefficient narrow_most Polynomial (λ z. cc) (polynomial-row d) p;
-          narrow = coefficient narrow_most Narrow (λ z. cc) (λ q e. (narrow-row d q e).1) p;
-          wide = coefficient (wide_most d) Wide (λ z. cc) (λ q e. (wide_row d q e).1) p;
+          narrow = coefficient narrow_most (Mmr Narrow) (λ z. cc) (λ q e. (narrow-row d q e).1) p;
+          wide = coefficient (wide_most d) (Mmr Wide) (λ z. cc) (λ q e. (wide_row d q e).1) p;
         };
       }
 
@@ -156,8 +157,8 @@ module _ (d : ℕ) (c : Component) (s : Ready) (g : ReadySide d c s) where
     same_value : (kind : Kind) → kind_of d q ≡ kind → piece_value order d kind q.row t ts ≡ piece_value 3 d kind q.row t ts
     unfolding piece_value
     same_value Polynomial e = refl
-    same_value Narrow e = let r = narrow-row d q e in ap (cut d) (ends narrow_most r.0 r.1)
-    same_value Wide e = let r = wide_row d q e in ap (cut d) (ends (wide_most d) r.0 r.1)
+    same_value (Mmr Narrow) e = let r = narrow-row d q e in ap (cut d) (ends narrow_most r.0 r.1)
+    same_value (Mmr Wide) e = let r = wide_row d q e in ap (cut d) (ends (wide_most d) r.0 r.1)
     same_value Broken e = refl
 
   pub ready_maps : (order : ℕ) → Highest c (pieces_used c.n) order → (x t : ℕ) (ts : List ℕ) → mapped_side order d s x t ts ≡ mapped_chroma d c x t ts

@@ -13,7 +13,7 @@ ghost use Rattle.mmr.specs.inner.Given.{SideGiven};
 ghost use Rattle.mmr.specs.inner.Ready.{row_within, kind_by, Kinds, Highest};
 ghost use Rattle.mmr.specs.inner.Chroma.{ReadySide};
 
-use crate::kind::Kind;
+use crate::kind::{Kind, Width};
 use crate::step::step_of;
 use crate::terms::Terms;
 use plan::Component;
@@ -104,8 +104,8 @@ fn kind_of(d: u8, idc: u8, order: u8, row: &[i64; ROW]) -> Kind
     let wide = row_within(wide_most(d), used, row);
     match idc {
         0 if narrow => Kind::Polynomial,
-        MMR if narrow => Kind::Narrow,
-        MMR if wide => Kind::Wide,
+        MMR if narrow => Kind::Mmr(Width::Narrow),
+        MMR if wide => Kind::Mmr(Width::Wide),
         _ => Kind::Broken,
     }
 }

@@ -6,7 +6,7 @@ ghost use Rattle.mmr.specs.inner.Apart.{coef, whole_sum, SumGiven, narrow_most, 
 ghost use Rattle.mmr.specs.inner.Steps.{three_of, piece_value};
 ghost use Rattle.mmr.specs.inner.Given.{RowGiven};
 
-use crate::kind::Kind;
+use crate::kind::{Kind, Width};
 use crate::sum::{floor_sum, narrow_sum};
 use crate::terms::{Terms, high};
 use plan::limits::ROW;
@@ -53,6 +53,7 @@ fn wide_step(d: u8, row: &[i64; ROW], ts: &Terms) -> u16
 }
 
 // The step of a piece, at its sample's own term.
+#[tactic(auto, unfolding(crate::specs::inner::Steps::piece_value))]
 pub(crate) fn step_of(d: u8, kind: Kind, row: &[i64; ROW], t: u64, ts: &Terms) -> u16
     requires d_bound { (d ≤ 32) × (t ≤ 2 ^ 20) }
     requires row_given { RowGiven d kind row.now }
@@ -60,8 +61,8 @@ pub(crate) fn step_of(d: u8, kind: Kind, row: &[i64; ROW], t: u64, ts: &Terms) -
 {
     match kind {
         Kind::Polynomial => polynomial_step(d, row, t),
-        Kind::Narrow => narrow_step(d, row, ts),
-        Kind::Wide => wide_step(d, row, ts),
+        Kind::Mmr(Width::Narrow) => narrow_step(d, row, ts),
+        Kind::Mmr(Width::Wide) => wide_step(d, row, ts),
         Kind::Broken => 0,
     }
 }

@@ -4,7 +4,8 @@ use Rattle.runs.specs.inner.Loops.{at}
 use Rattle.plan.specs.Ranges.{most_n}
 use Rattle.steps.specs.inner.Steps.{Rising}
 use Rattle.mmr.specs.declared.kind.Kind.{Kind}
-use Rattle.mmr.specs.declared.kind.Kind.TheVariants.{Polynomial, Narrow, Wide}
+use Rattle.mmr.specs.declared.kind.Kind.TheVariants.{Polynomial, Mmr}
+use Rattle.mmr.specs.declared.kind.Width.TheVariants.{Narrow, Wide}
 use Rattle.mmr.specs.declared.format.Format.{Format}
 use Rattle.mmr.specs.declared.ready.Ready.{Ready}
 use Rattle.mmr.specs.inner.Apart.{coef, narrow_most, wide_most}
@@ -13,8 +14,8 @@ use Rattle.mmr.specs.inner.Steps.{kind_at, row_of}
 -- the row of a piece of a kind
 pub record RowGiven (d : ℕ) (kind : Kind) (row : List ℤ) : Type 0 where
   pub polynomial : kind ≡ Polynomial → (i : ℕ) → nat_abs (coef row i) ≤ narrow_most
-  pub narrow : kind ≡ Narrow → (i : ℕ) → nat_abs (coef row i) ≤ narrow_most
-  pub wide : kind ≡ Wide → (i : ℕ) → nat_abs (coef row i) ≤ wide_most d
+  pub narrow : kind ≡ Mmr Narrow → (i : ℕ) → nat_abs (coef row i) ≤ narrow_most
+  pub wide : kind ≡ Mmr Wide → (i : ℕ) → nat_abs (coef row i) ≤ wide_most d
 
 -- its pivots rise, so that halving finds a piece; and what a kind says of its row
 pub record SideGiven (d : ℕ) (c : Ready) : Type 0 where

@@ -8,7 +8,8 @@ use Rattle.plan.specs.Rule7.{every, is_zero, piece_places, row_places, coefficie
 use Rattle.steps.specs.inner.Steps.{pivot_table}
 use Rattle.mmr.specs.inner.Apart.{coef, narrow_most, wide_most}
 use Rattle.mmr.specs.declared.kind.Kind.{Kind}
-use Rattle.mmr.specs.declared.kind.Kind.TheVariants.{Polynomial, Narrow, Wide, Broken}
+use Rattle.mmr.specs.declared.kind.Kind.TheVariants.{Polynomial, Mmr, Broken}
+use Rattle.mmr.specs.declared.kind.Width.TheVariants.{Narrow, Wide}
 use Rattle.mmr.specs.inner.Steps.{piece_value, piece_at}
 
 -- the first places of a row are at most so far from 0, and the others are 0
@@ -21,7 +22,7 @@ kind_by d idc order row =
     let used = coefficients_used idc order in
     cond (eqb idc 0) (cond (row_within narrow_most used row) Polynomial Broken)
     (cond (eqb idc 1)
-    (cond (row_within narrow_most used row) Narrow (cond (row_within (wide_most d) used row) Wide Broken))
+    (cond (row_within narrow_most used row) (Mmr Narrow) (cond (row_within (wide_most d) used row) (Mmr Wide) Broken))
     Broken)
 
 abbrev pub kind_of : ℕ → Piece → Kind

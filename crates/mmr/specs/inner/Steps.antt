@@ -6,7 +6,7 @@ use Rattle.plan.specs.declared.Piece.{Piece}
 use Rattle.plan.specs.declared.Component.{Component}
 use Rattle.plan.specs.Rule7.{no_piece}
 use Rattle.mmr.specs.declared.kind.Kind.{Kind}
-use Rattle.mmr.specs.declared.kind.Kind.TheVariants.{Polynomial, Narrow, Wide, Broken}
+use Rattle.mmr.specs.declared.kind.Kind.TheVariants.{Polynomial, Mmr, Broken}
 use Rattle.mmr.specs.declared.ready.Ready.{Ready}
 use Rattle.mmr.specs.inner.Apart.{coef, whole_sum}
 use Rattle.mmr.specs.inner.Terms.{high_of}
@@ -18,8 +18,7 @@ three_of row t = coef row 0 *ℤ pos (2 ^ 20) +ℤ coef row 1 *ℤ pos t +ℤ co
 -- the mapped sample of a piece of a kind; MMR of at most so high an order
 unfoldable pub piece_value : ℕ → ℕ → Kind → List ℤ → ℕ → List ℕ → ℕ
 piece_value order d Polynomial row t ts = cut d (three_of row t)
-piece_value order d Narrow row t ts = cut d (whole_sum (coef row) (at ts) (7 * order + 1))
-piece_value order d Wide row t ts = cut d (whole_sum (coef row) (at ts) (7 * order + 1))
+piece_value order d (Mmr width) row t ts = cut d (whole_sum (coef row) (at ts) (7 * order + 1))
 piece_value order d Broken row t ts = 0
 
 abbrev pub piece_at : Component → ℕ → Piece

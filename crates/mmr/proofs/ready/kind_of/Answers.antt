@@ -2,7 +2,8 @@
 use Rattle.std.proofs.Common.{◌≡◌, ℕ, List, ℤ, Bool, true, false, refl, arith}
 use borrow.Author.Tests.{ne_eqb}
 use Rattle.plan.specs.Rule7.{coefficients_used}
-use Rattle.mmr.specs.declared.kind.Kind.TheVariants.{Polynomial, Narrow, Wide, Broken}
+use Rattle.mmr.specs.declared.kind.Kind.TheVariants.{Polynomial, Mmr, Broken}
+use Rattle.mmr.specs.declared.kind.Width.TheVariants.{Narrow, Wide}
 use Rattle.mmr.specs.inner.Apart.{narrow_most, wide_most}
 use Rattle.mmr.specs.inner.Ready.{row_within, kind_by}
 use Rattle.mmr.proofs.ready.kind_of.Goals as goal
@@ -13,11 +14,11 @@ module _ (d idc order : ℕ) (row : List ℤ) {used most : ℕ} {n w : Bool} (u 
   unfolding kind_by
   polynomial e f = rw (← u, ← en, f, e) refl
 
-  narrow : idc ≡ 1 → n ≡ true → Narrow ≡ kind_by d idc order row
+  narrow : idc ≡ 1 → n ≡ true → Mmr Narrow ≡ kind_by d idc order row
   unfolding kind_by
   narrow e f = rw (← u, ← en, f, e) refl
 
-  wide : idc ≡ 1 → n ≡ false → w ≡ true → Wide ≡ kind_by d idc order row
+  wide : idc ≡ 1 → n ≡ false → w ≡ true → Mmr Wide ≡ kind_by d idc order row
   unfolding kind_by
   wide e f g = rw (← u, ← en, ← m, ← ew, f, g, e) refl
 
