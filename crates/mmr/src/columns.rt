@@ -1,5 +1,5 @@
 // One row of Cb and of Cr samples, from the two luma rows beside it. Both components have the same terms, which are made once.
-ghost use Rattle.std.specs.Prelude.{◌≡◌, ◌+◌, ◌*◌, ◌<◌, ◌≤◌, length, set};
+ghost use Rattle.std.specs.Prelude.{◌≡◌, ◌+◌, ◌*◌, ◌<◌, ◌≤◌, length};
 ghost use Rattle.runs.specs.Runs.{painted};
 ghost use Rattle.mmr.specs.inner.Terms.{Agreed};
 ghost use Rattle.mmr.specs.inner.Luma.{luma_beside};
@@ -43,22 +43,6 @@ fn column_terms(both: &Both, p: Place, base: &[u16], i: usize) -> Terms
     terms_of(f.order, f.depth, s0, s1, s2)
 }
 
-// The index of a column in a run, which it lies in: a sum of places does not wrap where a run is so long.
-fn index_of(run: &[u16], start: usize, i: usize) -> usize
-    requires { start + i < length run.now }
-    ensures { result ≡ start + i }
-{
-    start + i
-}
-
-fn store_both(output: &mut [u16], a: usize, u: u16, b: usize, v: u16)
-    requires { (a < length output.old) × (b < length output.old) }
-    ensures { output.new ≡ set (set output.old a u) b v }
-{
-    output[a] = u;
-    output[b] = v;
-}
-
 // The columns of one row of Cb and of Cr. Both pieces are searched first: what each comparison needs of the one before it is
 // waited for while the terms are made.
 pub(crate) fn compose_columns(both: &Both, inputs: &Inputs, p: Place, output: &mut [u16])
@@ -70,8 +54,8 @@ pub(crate) fn compose_columns(both: &Both, inputs: &Inputs, p: Place, output: &m
     let base = inputs.base;
     let d = both.format.d;
     for i in 0..p.columns {
-        let a = index_of(base, p.cb, i);
-        let b = index_of(base, p.cr, i);
+        let a = p.cb + i;
+        let b = p.cr + i;
         let p1 = both.cb.piece_of(base[a]);
         let p2 = both.cr.piece_of(base[b]);
         let ts = column_terms(both, p, base, i);
@@ -79,6 +63,7 @@ pub(crate) fn compose_columns(both: &Both, inputs: &Inputs, p: Place, output: &m
         let cr = both.cr.mapped(d, p2, ts.tt[3], &ts);
         let u = inputs.finished(inputs.cb_raised, cb, a);
         let v = inputs.finished(inputs.cr_raised, cr, b);
-        store_both(output, a, u, b, v);
+        output[a] = u;
+        output[b] = v;
     }
 }

@@ -17,6 +17,7 @@ pub(crate) struct Inputs<'a> {
 
 impl<'a> Inputs<'a> {
     // The HDR sample at index j of one component: a mapped sample, with the raised residual added, and cut.
+    #[tactic(auto, unfolding(crate::specs::inner::Columns::finished_by))]
     pub fn finished(&self, raised: &[u32; 1024], v: u16, j: usize) -> u16
         requires { j < length self.now.enhancement.now }
         ensures { result ≡ finished_by self.now.cut v raised.now self.now.enhancement.now j }

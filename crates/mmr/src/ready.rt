@@ -64,12 +64,10 @@ impl<'a> Ready<'a> {
 const NARROW_MOST: u64 = 274877906944;
 
 fn place_within(most: u64, used: bool, z: i64) -> bool
-    requires { most ≤ 2 ^ 48 }
     ensures { result ≡ cond used (leb (nat_abs z) most) (is_zero z) }
 {
     if used {
-        let top = most as i64;
-        (-top <= z) & (z <= top)
+        z.unsigned_abs() <= most
     } else {
         z == 0
     }
@@ -77,7 +75,6 @@ fn place_within(most: u64, used: bool, z: i64) -> bool
 
 // A row of which the first `used` places are used.
 fn row_within(most: u64, used: usize, row: &[i64; ROW]) -> bool
-    requires { most ≤ 2 ^ 48 }
     ensures { result ≡ row_within most used row.now }
 {
     let mut within = true;
@@ -116,8 +113,7 @@ fn kinds_of(d: u8, c: &Component) -> [Kind; PIECES]
 {
     let used = (c.n as usize) + 2;
     let mut kinds = [Kind::Broken; PIECES];
-    for p in 0..used {
-        let q = &c.pieces[p];
+    for (p, q) in c.pieces[..used].iter().enumerate() {
         kinds[p] = kind_of(d, q.idc, q.order, &q.row);
     }
     kinds
@@ -130,8 +126,7 @@ pub(crate) fn highest_order(c: &Component) -> usize
 {
     let used = (c.n as usize) + 2;
     let mut order: usize = 1;
-    for p in 0..used {
-        let q = &c.pieces[p];
+    for q in &c.pieces[..used] {
         if q.idc == MMR {
             let own = (q.order as usize) + 1;
             order = order.max(own.min(3));

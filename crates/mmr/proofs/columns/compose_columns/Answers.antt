@@ -1,5 +1,5 @@
 -- `mmr::columns::compose_columns` meets its contract: what is finished belongs at its column. Assumes nothing.
-use mathlib.Core.Path.{◌∙◌}
+use mathlib.Core.Path.{refl, ◌∙◌}
 use native.Mathlib.Omega.{arith}
 use Rattle.mmr.proofs.ByKind.{piece_in}
 use Rattle.mmr.proofs.Two.{no_columns, column_more, at_cb, at_cr}
@@ -25,8 +25,7 @@ loop-i-preserved c =
     let ts = c.column_terms-ts in
     let apart = c.requires.base.apart in
     let h = c.loop-i-test.true in
-    c.store_both.ensures
-    ∙ column_more p _ c.args.output.now l.i _ _ c.finished-u.result c.finished-v.result c.index_of-a.ensures c.index_of-b.ensures
+    column_more p _ c.args.output.now l.i _ _ c.finished-u.result c.finished-v.result refl refl
     (omega (arith, c.requires.output.apart, c.requires.output.inside)) (omega (arith, c.requires.output.inside)) l.invariant
-    (c.finished-u.ensures ∙ at_cb b v p apart l.i h _ ts.ensures.order ts.ensures.terms c.index_of-a.ensures c.piece_of-p1.ensures.piece c.mapped-cb.ensures)
-    (c.finished-v.ensures ∙ at_cr b v p apart l.i h _ ts.ensures.order ts.ensures.terms c.index_of-b.ensures c.piece_of-p2.ensures.piece c.mapped-cr.ensures)
+    (c.finished-u.ensures ∙ at_cb b v p apart l.i h _ ts.ensures.order ts.ensures.terms refl c.piece_of-p1.ensures.piece c.mapped-cb.ensures)
+    (c.finished-v.ensures ∙ at_cr b v p apart l.i h _ ts.ensures.order ts.ensures.terms refl c.piece_of-p2.ensures.piece c.mapped-cr.ensures)

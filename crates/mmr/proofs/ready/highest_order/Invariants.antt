@@ -2,5 +2,5 @@
 use Rattle.mmr.specs.inner.Ready.{Highest}
 use Rattle.mmr.proofs.ready.highest_order.Given as goal
 
-abbrev pub invariant-loop-p : goal.invariant-loop-p
-invariant-loop-p l = Highest l.c l.p l.order
+abbrev pub invariant-loop-q : goal.invariant-loop-q
+invariant-loop-q l = Highest l.c l.q-index l.order
