@@ -6,7 +6,7 @@ use sums::{Cut, cut_out};
 
 // The raised residuals of both components, how a sample is cut out of a sum, which row pairs are full, and the samples.
 #[derive(Clone, Copy)]
-pub(crate) struct Inputs<'a> {
+pub struct Inputs<'a> {
     pub cb_raised: &'a [u32; 1024],
     pub cr_raised: &'a [u32; 1024],
     pub cut: Cut,
@@ -18,7 +18,7 @@ pub(crate) struct Inputs<'a> {
 impl<'a> Inputs<'a> {
     // The HDR sample at index j of one component: a mapped sample, with the raised residual added, and cut.
     #[tactic(auto, unfolding(crate::specs::inner::Columns::finished_by))]
-    pub fn finished(&self, raised: &[u32; 1024], v: u16, j: usize) -> u16
+    pub(crate) fn finished(&self, raised: &[u32; 1024], v: u16, j: usize) -> u16
         requires { j < length self.now.enhancement.now }
         ensures { result ≡ finished_by self.now.cut v raised.now self.now.enhancement.now j }
     {

@@ -6,7 +6,7 @@ mod both; // both components made ready
 mod chroma; // row pairs of both chroma planes
 mod columns; // one row of Cb and of Cr samples
 mod format; // what the samples of all rows have in common
-mod inputs; // what row pairs are composed of
+pub mod inputs; // what row pairs are composed of
 mod kind; // how a piece maps a sample
 mod luma; // luma down-sampled to a chroma position
 mod ready; // a component made ready
@@ -29,7 +29,6 @@ use plan::ranges::header_fits;
 use plan::{Header, Plan};
 use ready::{Ready, highest_order};
 use rules::extent_of;
-use sums::Cut;
 
 fn numbers_fit(p: &Plan) -> bool
     ensures { result ≡ numbers_fit p.now.header p.now.y.n p.now.cb.n p.now.cr.n }
@@ -85,35 +84,19 @@ fn both_of(p: &Plan) -> Both
 // Composes the row pairs of Cb and Cr from `first` up to, but not including, `last`: each sample is mapped, a raised residual of
 // its enhancement sample is added, and the HDR sample is cut out of the sum. Row pairs that are full by the marks are
 // kept. Where the plan's numbers cannot be computed with, or the runs are not whole pictures, nothing is written.
-pub fn compose_chroma(
-    plan: Plan,
-    first: usize,
-    last: usize,
-    raised1: &[u32; 1024],
-    raised2: &[u32; 1024],
-    cut: Cut,
-    marks: &[u8],
-    base: &[u16],
-    enhancement: &[u16],
-    output: &mut [u16],
-)
-    ensures { output.new ≡ chroma_after plan first last raised1.now raised2.now cut marks.now base.now enhancement.now output.old }
+pub fn compose_chroma(plan: Plan, first: usize, last: usize, inputs: &Inputs, output: &mut [u16])
+    ensures { output.new ≡ chroma_after plan first last inputs.now.cb_raised.now inputs.now.cr_raised.now inputs.now.cut inputs.now.marks.now inputs.now.base.now inputs.now.enhancement.now output.old }
 {
     let h = plan.header;
     if !numbers_fit(&plan) {
         return;
     }
-    if !(pairs_fit(h, first, last) & runs_fit(h, base.len(), enhancement.len(), output.len())) {
+    if !pairs_fit(h, first, last) {
+        return;
+    }
+    if !runs_fit(h, inputs.base.len(), inputs.enhancement.len(), output.len()) {
         return;
     }
     let both = both_of(&plan);
-    let inputs = Inputs {
-        cb_raised: raised1,
-        cr_raised: raised2,
-        cut: cut,
-        marks: marks,
-        base: base,
-        enhancement: enhancement,
-    };
-    compose_rows(&both, &inputs, planes_of(extent_of(h)), first, last, output);
+    compose_rows(&both, inputs, planes_of(extent_of(h)), first, last, output);
 }
