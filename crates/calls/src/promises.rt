@@ -237,18 +237,15 @@ pub fn compose_chroma(
 )
     ensures { compose_chroma_keeps plan first last raised1.now raised2.now cut marks.now base.now enhancement.now output.old output.new }
 {
-    mmr::compose_chroma(
-        plan,
-        first,
-        last,
-        raised1,
-        raised2,
-        cut,
-        marks,
-        base,
-        enhancement,
-        output,
-    )
+    let inputs = mmr::inputs::Inputs {
+        cb_raised: raised1,
+        cr_raised: raised2,
+        cut: cut,
+        marks: marks,
+        base: base,
+        enhancement: enhancement,
+    };
+    mmr::compose_chroma(plan, first, last, &inputs, output)
 }
 
 pub fn slice_table(plan: plan::Plan, cr: bool) -> [u16; 1024]

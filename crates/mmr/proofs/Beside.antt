@@ -1,7 +1,7 @@
 -- Where the down-sampling finds its columns. Assumes nothing.
-use mathlib.Core.Path.{◌≡◌, ap, ◌∙◌}
+use mathlib.Core.Path.{◌≡◌, refl, ap, ◌∙◌}
 use mathlib.Core.List.{List}
-use Prim.Native.Nat.{ℕ, ◌+◌, ◌-◌, ◌*◌, ◌<◌, ◌≤◌}
+use Prim.Native.Nat.{ℕ, zero, suc, ◌+◌, ◌-◌, ◌*◌, ◌<◌, ◌≤◌}
 use native.Mathlib.Nat.{min-eq_left}
 use native.Mathlib.Omega.{arith}
 use lib.IntN.{pos, ◌+ℤ◌, ◌-ℤ◌}
@@ -11,12 +11,10 @@ use Rattle.standard.specs.Mapping.{from_zero}
 use Rattle.standard.specs.Mmr.{inside, row_sum}
 use Rattle.mmr.specs.inner.Luma.{weighted, row_from}
 
--- the column before the first is the first
-pub before_first : (x : ℕ) → x ≡ 0 → 0 ≡ from_zero (pos x -ℤ pos 1)
-before_first x e = rw e
-
-pub before_other : (x : ℕ) → 1 ≤ x → x - 1 ≡ from_zero (pos x -ℤ pos 1)
-before_other x h = rw (le-ltb x 1 h)
+-- the column before, or the first
+pub before : (x : ℕ) → x - 1 ≡ from_zero (pos x -ℤ pos 1)
+before zero = refl
+before (suc x) = rw (le-ltb (suc x) 1 (omega arith)) refl
 
 -- a row's sum by the indices of its three samples
 pub row_sum_is : (run : List ℕ) (w start i b l m : ℕ) → 2 * i + 1 < w → b ≡ from_zero (pos (2 * i) -ℤ pos 1) → b ≤ 2 * i → l ≡ start + b → m ≡ start + 2 * i → weighted (at run l) (at run m) (at run (m + 1)) ≡ row_sum w (row_from run start) i

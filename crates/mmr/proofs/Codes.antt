@@ -6,8 +6,8 @@ use native.Mathlib.Omega.{arith}
 use lib.Dec.{ltb}
 use lib.Pow.{pow_pos}
 use borrow.Author.Tests.{lt-ltb, le-ltb}
-use Rattle.mmr.specs.declared.columns.Format.{Format}
-use Rattle.mmr.specs.inner.Columns.{FormatGiven}
+use Rattle.mmr.specs.declared.format.Format.{Format}
+use Rattle.mmr.specs.inner.Given.{FormatGiven}
 
 pub is_code : (r t codes : ℕ) → r ≡ t → r < codes → r ≡ cond (ltb t codes) t 0
 is_code r t codes e h = rw (← e) (rw (lt-ltb r codes h) refl)

@@ -105,3 +105,7 @@ agreed_more {n} {v} {l} {ts} a b e h =
     low : (i : ℕ) → Dec (i ≡ n) → at (set l n v) i ≤ 2 ^ 20
     low i (yes p) = rw p (le_trans (le_of_eq (get_or-set_same l n v 0 inside)) h)
     low i (no p) = le_trans (le_of_eq (get_or-set_other l n i v 0 p)) (a.low i)
+
+-- the terms of equal samples
+pub terms_cong : (depth n : ℕ) {r : List ℕ} {a b c x y z : ℕ} → a ≡ x → b ≡ y → c ≡ z → Agreed n r (terms depth a b c) → Agreed n r (terms depth x y z)
+terms_cong depth n e f g h = rw (← e, ← f, ← g) h

@@ -27,9 +27,11 @@ use Rattle.steps.specs.inner.Steps.{pivot_table}
 use Rattle.steps.proofs.Small.{pivot-at}
 use Rattle.mmr.specs.inner.Apart.{coef, whole_sum, narrow_most, wide_most}
 use Rattle.mmr.specs.inner.Luma.{row_from, luma_beside}
-use Rattle.mmr.specs.inner.Steps.{three_of, polynomial_kind, narrow_kind, wide_kind, piece_value}
+use Rattle.mmr.specs.declared.kind.Kind.TheVariants.{Polynomial, Mmr}
+use Rattle.mmr.specs.declared.kind.Width.TheVariants.{Narrow, Wide}
+use Rattle.mmr.specs.inner.Steps.{piece_at, piece_value}
 use Rattle.mmr.specs.inner.Columns.{code_of}
-use Rattle.mmr.specs.inner.Ready.{row_within, kind_by, kind_of, piece_at, mapped_chroma}
+use Rattle.mmr.specs.inner.Ready.{row_within, kind_by, kind_of, mapped_chroma}
 use Rattle.mmr.specs.inner.Chroma.{ends_of}
 use Rattle.mmr.proofs.Powers.{square_raised}
 use Rattle.mmr.proofs.Meeting.{sum_zeros, mmr_sum_is}
@@ -83,7 +85,7 @@ module _ (k : ℕ) (h : Header) (q : Piece) (g : PieceFacts k h q) (f : HeaderFa
   wide-limit z = rw z (le_of_eq refl)
 
   -- the sum of a piece: what it is of, by its method
-  pub polynomial_is : q.idc ≡ 0 → kind_of h.d q ≡ polynomial_kind
+  pub polynomial_is : q.idc ≡ 0 → kind_of h.d q ≡ Polynomial
   unfolding kind_by
   polynomial_is z = rw (z, rw z at (within narrow_most (narrow-limit z))) refl
 
@@ -91,7 +93,7 @@ module _ (k : ℕ) (h : Header) (q : Piece) (g : PieceFacts k h q) (f : HeaderFa
   unfolding kind_by piece_value
   mmr_value z t ts = rw (z, rw z at (within (wide_most h.d) (wide-limit z))) (either (row_within narrow_most (7 * (q.order + 1) + 1) q.row))
     where
-      either : (u : Bool) → cond (eqb (cond u narrow_kind wide_kind) polynomial_kind) (cut h.d (three_of q.row t)) (cond (eqb (cond u narrow_kind wide_kind) narrow_kind) (cut h.d (whole_sum (coef q.row) (at ts) (7 * 3 + 1))) (cond (eqb (cond u narrow_kind wide_kind) wide_kind) (cut h.d (whole_sum (coef q.row) (at ts) (7 * 3 + 1))) 0)) ≡ cut h.d (whole_sum (coef q.row) (at ts) 22)
+      either : (u : Bool) → piece_value 3 h.d (cond u (Mmr Narrow) (Mmr Wide)) q.row t ts ≡ cut h.d (whole_sum (coef q.row) (at ts) 22)
       either true = refl
       either false = refl
 

@@ -15,9 +15,9 @@ use Rattle.picture.specs.declared.Plane.{Plane}
 use Rattle.picture.specs.declared.Planes.{Planes}
 use Rattle.picture.specs.inner.Planes.{row_start, in_rows}
 use Rattle.picture.proofs.Rows.{rows_none, rows_same, rows_beside}
-use Rattle.sums.specs.declared.Cut.{Cut}
-use Rattle.mmr.specs.declared.columns.Format.{Format}
-use Rattle.mmr.specs.inner.Columns.{Both, cb_column, cr_column, row_value, two_rows, PlaceGiven}
+use Rattle.mmr.specs.declared.both.Both.{Both}
+use Rattle.mmr.specs.declared.inputs.Inputs.{Inputs}
+use Rattle.mmr.specs.inner.Columns.{cb_column, cr_column, row_value, two_rows, PlaceGiven}
 use Rattle.mmr.specs.inner.Rows.{place_of, of_both, plane_value, RowsGiven}
 
 -- the place of an index in a plane, by the row pair where it lies
@@ -67,40 +67,40 @@ pair_place {p} {k} {n} g =
       inside = omega (arith, next_start p.cr k, g.same_columns, g.inside);
     }
 
-module _ (f : Format) (b : Both) (cut : Cut) (p : Planes) (base enhancement : List ℕ) where
+module _ (b : Both) (v : Inputs) (p : Planes) where
   -- a value by its row pair is the plane's
-  cb_value : (k j : ℕ) → row_start p.cb (k + 1) ≤ p.cr.start → row_start p.cb k ≤ j → j < row_start p.cb k + p.cb.row → row_value f b cut (place_of p k) base enhancement j ≡ plane_value f b cut p base enhancement j
+  cb_value : (k j : ℕ) → row_start p.cb (k + 1) ≤ p.cr.start → row_start p.cb k ≤ j → j < row_start p.cb k + p.cb.row → row_value b v (place_of p k) j ≡ plane_value b v p j
   unfolding row_value plane_value
   cb_value k j apart lo hi =
       let before : j < p.cr.start = omega (arith, next_start p.cb k) in
       let inner : j < row_start p.cr k = omega arith in
       rw (lt-ltb j p.cr.start before, lt-ltb j (row_start p.cr k) inner)
-      (sym (ap₂ (λ (m i : ℕ). cb_column f b cut (place_of p m) base enhancement i) (pair_of p.cb k j lo hi) (column_of p.cb k j lo hi)))
+      (sym (ap₂ (λ (m i : ℕ). cb_column b.format b.cb v (place_of p m) i) (pair_of p.cb k j lo hi) (column_of p.cb k j lo hi)))
 
-  cr_value : (k j : ℕ) → row_start p.cr k ≤ j → j < row_start p.cr k + p.cr.row → row_value f b cut (place_of p k) base enhancement j ≡ plane_value f b cut p base enhancement j
+  cr_value : (k j : ℕ) → row_start p.cr k ≤ j → j < row_start p.cr k + p.cr.row → row_value b v (place_of p k) j ≡ plane_value b v p j
   unfolding row_value plane_value
   cr_value k j lo hi =
       let after : p.cr.start ≤ j = omega arith in
       rw (le-ltb j p.cr.start after, le-ltb j (row_start p.cr k) lo)
-      (sym (ap₂ (λ (m i : ℕ). cr_column f b cut (place_of p m) base enhancement i) (pair_of p.cr k j lo hi) (column_of p.cr k j lo hi)))
+      (sym (ap₂ (λ (m i : ℕ). cr_column b.format b.cr v (place_of p m) i) (pair_of p.cr k j lo hi) (column_of p.cr k j lo hi)))
 
   module _ (l : List ℕ) where
-    pub no_pairs : (s : ℕ → Bool) → ((j : ℕ) → s j ≡ false) → l ≡ painted (of_both p s) (plane_value f b cut p base enhancement) l
+    pub no_pairs : (s : ℕ → Bool) → ((j : ℕ) → s j ≡ false) → l ≡ painted (of_both p s) (plane_value b v p) l
     no_pairs s none = sym (painted_none _ _ l (λ i h. ap₂ ◌||◌ (rows_none p.cb s i none) (rows_none p.cr s i none)))
 
-    module _ (s t : ℕ → Bool) (now : List ℕ) (is : now ≡ painted (of_both p s) (plane_value f b cut p base enhancement) l) where
+    module _ (s t : ℕ → Bool) (now : List ℕ) (is : now ≡ painted (of_both p s) (plane_value b v p) l) where
       -- the same row pairs
-      pub pairs_kept : ((j : ℕ) → s j ≡ t j) → now ≡ painted (of_both p t) (plane_value f b cut p base enhancement) l
+      pub pairs_kept : ((j : ℕ) → s j ≡ t j) → now ≡ painted (of_both p t) (plane_value b v p) l
       pairs_kept same = is ∙ painted_cong _ _ _ _ l (λ i h. ap₂ ◌||◌ (rows_same p.cb s i t same) (rows_same p.cr s i t same)) (λ i h u. refl)
 
       -- one row pair more
-      pub pair_more : (k : ℕ) {n : ℕ} {after : List ℕ} → ((j : ℕ) → (s j || eqb j k) ≡ t j) → RowsGiven p k (k + 1) n → after ≡ painted (two_rows (place_of p k) p.cb.row) (row_value f b cut (place_of p k) base enhancement) now → after ≡ painted (of_both p t) (plane_value f b cut p base enhancement) l
+      pub pair_more : (k : ℕ) {n : ℕ} {after : List ℕ} → ((j : ℕ) → (s j || eqb j k) ≡ t j) → RowsGiven p k (k + 1) n → after ≡ painted (two_rows (place_of p k) p.cb.row) (row_value b v (place_of p k)) now → after ≡ painted (of_both p t) (plane_value b v p) l
       pair_more k {n} {after} more g q =
           q
           ∙ painted_cong (two_rows (place_of p k) p.cb.row) (rows_at p k) _ _ now (λ j m. same j) (λ j m u. value j u)
-          ∙ ap (painted (rows_at p k) (plane_value f b cut p base enhancement)) is
-          ∙ painted-over (of_both p s) (rows_at p k) (plane_value f b cut p base enhancement) l
-          ∙ painted_cong _ _ (plane_value f b cut p base enhancement) (plane_value f b cut p base enhancement) l (λ j m. joined j) (λ j m u. refl)
+          ∙ ap (painted (rows_at p k) (plane_value b v p)) is
+          ∙ painted-over (of_both p s) (rows_at p k) (plane_value b v p) l
+          ∙ painted_cong _ _ (plane_value b v p) (plane_value b v p) l (λ j m. joined j) (λ j m u. refl)
         where
           ends : row_start p.cr k + p.cb.row ≡ row_start p.cr (k + 1)
           ends = omega (arith, next_start p.cr k, g.same_columns)
@@ -112,7 +112,7 @@ module _ (f : Format) (b : Both) (cut : Cut) (p : Planes) (base enhancement : Li
           either true y u v t = u refl
           either false y u v t = v t
 
-          value : (j : ℕ) → rows_at p k j ≡ true → row_value f b cut (place_of p k) base enhancement j ≡ plane_value f b cut p base enhancement j
+          value : (j : ℕ) → rows_at p k j ≡ true → row_value b v (place_of p k) j ≡ plane_value b v p j
           value j u =
               either (row_at p.cb k j) (row_at p.cr k j)
               (λ v. let w = between_true (row_start p.cb k) (row_start p.cb (k + 1)) j v in cb_value k j g.apart w.0 (omega (arith, w.1, next_start p.cb k)))

@@ -1,9 +1,9 @@
 -- A component made ready maps as its pieces do. Assumes nothing.
 use mathlib.Core.Path.{◌≡◌, refl, sym, ap, ap₂, ◌∙◌}
 use mathlib.Core.Bool.{Bool, true, false, cond}
-use mathlib.Core.List.{List, []}
+use mathlib.Core.List.{List}
 use mathlib.Core.Logic.{⊎_elim}
-use Prim.Native.Nat.{ℕ, zero, suc, ◌+◌, ◌-◌, ◌*◌, ◌<◌, ◌≤◌, zero-le}
+use Prim.Native.Nat.{ℕ, ◌+◌, ◌-◌, ◌*◌, ◌<◌, ◌≤◌, zero-le}
 use native.Mathlib.Nat.{le_trans, le_of_eq}
 use native.Mathlib.Omega.{arith}
 use lib.Dec.{leb, ltb, eqb}
@@ -17,60 +17,66 @@ use Rattle.standard.proofs.Pieces.{idx_le}
 use Rattle.plan.specs.declared.Piece.{Piece}
 use Rattle.plan.specs.declared.Component.{Component}
 use Rattle.plan.specs.Ranges.{most_n}
-use Rattle.plan.specs.Rule7.{is_zero, piece_places, row_places, pieces_used, coefficients_used}
+use Rattle.plan.specs.Rule7.{is_zero, piece_places, row_places, pieces_used, coefficients_used, no_piece}
 use Rattle.plan.proofs.Anywhere.{beyond}
 use Rattle.plan.proofs.Coefficients.{zero_abs}
 use Rattle.plan.proofs.Truths.{every-at}
 use Rattle.steps.specs.inner.Steps.{pivot_table}
 use Rattle.steps.proofs.Halving.{table_rises}
 use Rattle.mmr.specs.inner.Apart.{coef, whole_sum, narrow_most, wide_most}
-use Rattle.mmr.specs.inner.Steps.{Side, row_of, polynomial_kind, narrow_kind, wide_kind, piece_value, mapped_side, SideGiven}
-use Rattle.mmr.specs.inner.Ready.{row_within, no_kind, kind_by, kind_of, piece_at, mapped_chroma, Highest}
+use Rattle.mmr.specs.declared.kind.Kind.{Kind}
+use Rattle.mmr.specs.declared.kind.Kind.TheVariants.{Polynomial, Mmr, Broken}
+use Rattle.mmr.specs.declared.kind.Width.TheVariants.{Narrow, Wide}
+use Rattle.mmr.specs.declared.ready.Ready.{Ready}
+use Rattle.mmr.specs.inner.Steps.{row_of, kind_at, piece_at, piece_value, mapped_side}
+use Rattle.mmr.specs.inner.Given.{SideGiven}
+use Rattle.mmr.specs.inner.Ready.{row_within, kind_by, kind_of, mapped_chroma, Highest}
 use Rattle.mmr.specs.inner.Chroma.{ReadySide}
 use Rattle.mmr.proofs.Meeting.{sum_zeros}
-use Rattle.mmr.proofs.ByKind.{as_none}
 
 -- ---- what a kind says of its piece
-module _ {k : ℕ} where
-  of_polynomial : (a b n w : Bool) → cond a (cond n polynomial_kind no_kind) (cond b (cond n narrow_kind (cond w wide_kind no_kind)) no_kind) ≡ k → k ≡ polynomial_kind → n ≡ true
-  of_polynomial true b true w e q = refl
-  of_polynomial true b false w e q = absurd (omega arith)
-  of_polynomial false true true w e q = absurd (omega arith)
-  of_polynomial false true false true e q = absurd (omega arith)
-  of_polynomial false true false false e q = absurd (omega arith)
-  of_polynomial false false n w e q = absurd (omega arith)
+abbrev by_tests : Bool → Bool → Bool → Bool → Kind
+by_tests a b n w = cond a (cond n Polynomial Broken) (cond b (cond n (Mmr Narrow) (cond w (Mmr Wide) Broken)) Broken)
 
-  of_narrow : (a b n w : Bool) → cond a (cond n polynomial_kind no_kind) (cond b (cond n narrow_kind (cond w wide_kind no_kind)) no_kind) ≡ k → k ≡ narrow_kind → (b ≡ true) × (n ≡ true)
-  of_narrow true b true w e q = absurd (omega arith)
-  of_narrow true b false w e q = absurd (omega arith)
-  of_narrow false true true w e q = (refl, refl)
-  of_narrow false true false true e q = absurd (omega arith)
-  of_narrow false true false false e q = absurd (omega arith)
-  of_narrow false false n w e q = absurd (omega arith)
+of_polynomial : (a b n w : Bool) → by_tests a b n w ≡ Polynomial → n ≡ true
+of_polynomial true b true w q = refl
+of_polynomial true b false w q = cc
+of_polynomial false true true w q = cc
+of_polynomial false true false true q = cc
+of_polynomial false true false false q = cc
+of_polynomial false false n w q = cc
 
-  of_wide : (a b n w : Bool) → cond a (cond n polynomial_kind no_kind) (cond b (cond n narrow_kind (cond w wide_kind no_kind)) no_kind) ≡ k → k ≡ wide_kind → (b ≡ true) × (w ≡ true)
-  of_wide true b true w e q = absurd (omega arith)
-  of_wide true b false w e q = absurd (omega arith)
-  of_wide false true true w e q = absurd (omega arith)
-  of_wide false true false true e q = (refl, refl)
-  of_wide false true false false e q = absurd (omega arith)
-  of_wide false false n w e q = absurd (omega arith)
+of_narrow : (a b n w : Bool) → by_tests a b n w ≡ Mmr Narrow → (b ≡ true) × (n ≡ true)
+of_narrow true b true w q = absurd (cc)
+of_narrow true b false w q = absurd (cc)
+of_narrow false true true w q = (refl, refl)
+of_narrow false true false true q = absurd (cc)
+of_narrow false true false false q = absurd (cc)
+of_narrow false false n w q = absurd (cc)
+
+of_wide : (a b n w : Bool) → by_tests a b n w ≡ Mmr Wide → (b ≡ true) × (w ≡ true)
+of_wide true b true w q = absurd (cc)
+of_wide true b false w q = absurd (cc)
+of_wide false true true w q = absurd (cc)
+of_wide false true false true q = (refl, refl)
+of_wide false true false false q = absurd (cc)
+of_wide false false n w q = absurd (cc)
 
 module _ (d : ℕ) (q : Piece) where
   abbrev used : ℕ
   used = coefficients_used q.idc q.order
 
-  pub polynomial-row : kind_of d q ≡ polynomial_kind → row_within narrow_most used q.row ≡ true
+  pub polynomial-row : kind_of d q ≡ Polynomial → row_within narrow_most used q.row ≡ true
   unfolding kind_by
-  polynomial-row e = of_polynomial (eqb q.idc 0) (eqb q.idc 1) (row_within narrow_most used q.row) (row_within (wide_most d) used q.row) refl e
+  polynomial-row e = of_polynomial (eqb q.idc 0) (eqb q.idc 1) (row_within narrow_most used q.row) (row_within (wide_most d) used q.row) e
 
-  pub narrow-row : kind_of d q ≡ narrow_kind → (eqb q.idc 1 ≡ true) × (row_within narrow_most used q.row ≡ true)
+  pub narrow-row : kind_of d q ≡ Mmr Narrow → (eqb q.idc 1 ≡ true) × (row_within narrow_most used q.row ≡ true)
   unfolding kind_by
-  narrow-row e = of_narrow (eqb q.idc 0) (eqb q.idc 1) (row_within narrow_most used q.row) (row_within (wide_most d) used q.row) refl e
+  narrow-row e = of_narrow (eqb q.idc 0) (eqb q.idc 1) (row_within narrow_most used q.row) (row_within (wide_most d) used q.row) e
 
-  pub wide_row : kind_of d q ≡ wide_kind → (eqb q.idc 1 ≡ true) × (row_within (wide_most d) used q.row ≡ true)
+  pub wide_row : kind_of d q ≡ Mmr Wide → (eqb q.idc 1 ≡ true) × (row_within (wide_most d) used q.row ≡ true)
   unfolding kind_by
-  wide_row e = of_wide (eqb q.idc 0) (eqb q.idc 1) (row_within narrow_most used q.row) (row_within (wide_most d) used q.row) refl e
+  wide_row e = of_wide (eqb q.idc 0) (eqb q.idc 1) (row_within narrow_most used q.row) (row_within (wide_most d) used q.row) e
 
 -- ---- what a row within a limit has
 module _ (most used : ℕ) (row : List ℤ) (long : length row ≡ row_places) (e : row_within most used row ≡ true) where
@@ -93,36 +99,39 @@ module _ (most used : ℕ) (row : List ℤ) (long : length row ≡ row_places) (
   row_ends i h b = zero_abs (coef row i) (eqb-true _ 0 (rw (le-ltb i used h) at (place i b)))
 
 -- ---- a side that is ready
-module _ (d : ℕ) (c : Component) (s : Side) (g : ReadySide d c s) where
+module _ (d : ℕ) (c : Component) (s : Ready) (g : ReadySide d c s) where
   count : c.n ≤ most_n
-  count = leb-true c.n most_n g.few
+  count = g.few
+
+  same_row : (p : ℕ) → row_of s p ≡ (piece_at c p).row
+  same_row p = ap (λ (x : Component). (piece_at x p).row) g.component
 
   -- a coefficient of a piece that is used, or of none
-  coefficient : (most kind : ℕ) → (kind ≡ no_kind → ⊥) → ((q : Piece) → kind_of d q ≡ kind → row_within most (coefficients_used q.idc q.order) q.row ≡ true) → (p i : ℕ) → at s.kinds p ≡ kind → nat_abs (coef (row_of s p) i) ≤ most
-  coefficient most kind other says p i e = ⊎_elim of_used (λ h. ⊎_elim (λ b. absurd (other (sym e ∙ g.kinds.rest p h b))) none (lt_or_ge p piece_places)) (lt_or_ge p (pieces_used c.n))
+  coefficient : (most : ℕ) (kind : Kind) → (kind ≡ Broken → ⊥) → ((q : Piece) → kind_of d q ≡ kind → row_within most (coefficients_used q.idc q.order) q.row ≡ true) → (p : ℕ) → kind_at s p ≡ kind → (i : ℕ) → nat_abs (coef (row_of s p) i) ≤ most
+  coefficient most kind other says p e i = le_trans (le_of_eq (ap (λ (r : List ℤ). nat_abs (coef r i)) (same_row p))) (⊎_elim of_used (λ h. ⊎_elim (λ b. absurd (other (sym e ∙ g.kinds.rest p h b))) none (lt_or_ge p piece_places)) (lt_or_ge p (pieces_used c.n)))
     where
-      of_used : p < pieces_used c.n → nat_abs (coef (row_of s p) i) ≤ most
+      of_used : p < pieces_used c.n → nat_abs (coef (piece_at c p).row i) ≤ most
       of_used h =
           let q = piece_at c p in
           let inside : p < piece_places = omega (arith, count) in
-          le_trans (le_of_eq (ap (λ (r : List ℤ). nat_abs (coef r i)) (g.rows.row p inside)))
-          (row_low most (coefficients_used q.idc q.order) q.row (g.arrays.row p inside) (says q (sym (g.kinds.done p h) ∙ e)) i)
+          row_low most (coefficients_used q.idc q.order) q.row (g.arrays.row p inside) (says q (sym (g.kinds.done p h) ∙ e)) i
 
-      none : piece_places ≤ p → nat_abs (coef (row_of s p) i) ≤ most
-      none h = empty (beyond s.rows [] p (omega (arith, g.rows.long)))
+      none : piece_places ≤ p → nat_abs (coef (piece_at c p).row i) ≤ most
+      none h = empty (beyond c.pieces no_piece p (omega (arith, g.arrays.pieces)))
         where
-          empty : row_of s p ≡ [] → nat_abs (coef (row_of s p) i) ≤ most
+          empty : piece_at c p ≡ no_piece → nat_abs (coef (piece_at c p).row i) ≤ most
           empty z = rw z zero-le
 
-  pub ready_given : d ≤ 32 → SideGiven d s
-  ready_given h =
+  pub ready_given : SideGiven d s
+  ready_given =
       record {
-        shallow = h;
-        few = omega (arith, g.n, count);
+        few = rw g.component count;
         rising = rw g.pivots (table_rises c.preds);
-        polynomials = coefficient narrow_most polynomial_kind (λ z. omega arith) (polynomial-row d);
-        narrow = coefficient narrow_most narrow_kind (λ z. omega arith) (λ q e. (narrow-row d q e).1);
-        wide = coefficient (wide_most d) wide_kind (λ z. omega arith) (λ q e. (wide_row d q e).1);
+        row = λ p. record {
+          polynomial = coefficient narrow_most Polynomial (λ z. cc) (polynomial-row d) p;
+          narrow = coefficient narrow_most (Mmr Narrow) (λ z. cc) (λ q e. (narrow-row d q e).1) p;
+          wide = coefficient (wide_most d) (Mmr Wide) (λ z. cc) (λ q e. (wide_row d q e).1) p;
+        };
       }
 
   -- the sum over a piece's terms ends with its order
@@ -145,21 +154,19 @@ module _ (d : ℕ) (c : Component) (s : Side) (g : ReadySide d c s) where
         beyond_order : q.idc ≡ 1 → (j : ℕ) → 7 * order + 1 ≤ j → j < 22 → coefficients_used q.idc q.order ≤ j
         beyond_order z j a b = rw z (omega (arith, top.mmr p h z, top.most))
 
-    same_value : (kind : ℕ) → kind_of d q ≡ kind → piece_value order d kind q.row t ts ≡ piece_value 3 d kind q.row t ts
+    same_value : (kind : Kind) → kind_of d q ≡ kind → piece_value order d kind q.row t ts ≡ piece_value 3 d kind q.row t ts
     unfolding piece_value
-    same_value zero e = refl
-    same_value (suc zero) e = let r = narrow-row d q e in ap (cut d) (ends narrow_most r.0 r.1)
-    same_value (suc (suc zero)) e = let r = wide_row d q e in ap (cut d) (ends (wide_most d) r.0 r.1)
-    same_value (suc (suc (suc k))) e =
-        sym (as_none order d {kind = suc (suc (suc k))} q.row t ts (λ z. omega arith) (λ z. omega arith) (λ z. omega arith))
-        ∙ as_none 3 d {kind = suc (suc (suc k))} q.row t ts (λ z. omega arith) (λ z. omega arith) (λ z. omega arith)
+    same_value Polynomial e = refl
+    same_value (Mmr Narrow) e = let r = narrow-row d q e in ap (cut d) (ends narrow_most r.0 r.1)
+    same_value (Mmr Wide) e = let r = wide_row d q e in ap (cut d) (ends (wide_most d) r.0 r.1)
+    same_value Broken e = refl
 
   pub ready_maps : (order : ℕ) → Highest c (pieces_used c.n) order → (x t : ℕ) (ts : List ℕ) → mapped_side order d s x t ts ≡ mapped_chroma d c x t ts
   unfolding mapped_side mapped_chroma
   ready_maps order top x t ts =
       let p = pivot_idx (at (pivot_table c.preds)) c.n x in
       let few : p < pieces_used c.n = omega (arith, idx_le (at (pivot_table c.preds)) c.n x) in
-      let e : pivot_idx (at s.pivots) s.n x ≡ p = ap₂ (λ (l : List ℕ) (n : ℕ). pivot_idx (at l) n x) g.pivots g.n in
-      ap (λ (i : ℕ). piece_value order d (at s.kinds i) (row_of s i) t ts) e
-      ∙ ap₂ (λ (k : ℕ) (r : List ℤ). piece_value order d k r t ts) (g.kinds.done p few) (g.rows.row p (omega (arith, count)))
+      let e : pivot_idx (at s.pivots) s.component.now.n x ≡ p = ap₂ (λ (l : List ℕ) (k : Component). pivot_idx (at l) k.n x) g.pivots g.component in
+      ap (λ (i : ℕ). piece_value order d (kind_at s i) (row_of s i) t ts) e
+      ∙ ap₂ (λ (k : Kind) (r : List ℤ). piece_value order d k r t ts) (g.kinds.done p few) (same_row p)
       ∙ same_value order top p few t ts (kind_of d (piece_at c p)) refl

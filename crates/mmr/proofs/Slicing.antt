@@ -14,34 +14,29 @@ use Rattle.runs.specs.inner.Tables.{table, coded}
 use Rattle.runs.proofs.Tables.{length-table, at_table, coded_in, no_codes}
 use Rattle.standard.specs.Mmr.{chroma_mapped}
 use Rattle.plan.specs.declared.Header.{Header}
-use Rattle.plan.specs.declared.Component.{Component}
 use Rattle.plan.specs.declared.Plan.{Plan}
 use Rattle.plan.specs.Parameters.{mapping}
-use Rattle.plan.specs.Ranges.{most_n, bl_depth, header_fits, count_fits}
+use Rattle.plan.specs.Ranges.{most_n, bl_depth, header_fits}
 use Rattle.plan.specs.Rule7.{pieces_used, fitting}
 use Rattle.plan.specs.inner.Facts.{ComponentFacts}
 use Rattle.plan.proofs.Facts.{header_facts, component_facts, y_usable, cb_usable, cr_usable}
 use Rattle.plan.proofs.Truths.{both}
-use Rattle.mmr.specs.declared.columns.Format.{Format}
+use Rattle.mmr.specs.declared.format.Format.{Format}
+use Rattle.mmr.specs.declared.both.Both.{Both}
 use Rattle.mmr.specs.inner.Terms.{Agreed}
-use Rattle.mmr.specs.inner.Steps.{Side, row_of, piece_value, SideGiven}
-use Rattle.mmr.specs.inner.Columns.{FormatGiven}
+use Rattle.mmr.specs.inner.Steps.{row_of, kind_at, piece_value, mapped_side}
 use Rattle.mmr.specs.inner.Ready.{Highest}
 use Rattle.mmr.specs.inner.Chroma.{format_of, numbers_fit, PlanReady, FormatFor, ReadySide}
-use Rattle.mmr.specs.inner.Slice.{sliced, own, slice_terms, slice_of, slice_table, slice_by, SliceGiven}
+use Rattle.mmr.specs.inner.Slice.{sliced, own, slice_terms, slice_of, slice_table, slice_by}
 use Rattle.mmr.proofs.ByKind.{Searched, step_maps}
 use Rattle.mmr.proofs.Prepared.{ready_maps}
-use Rattle.mmr.proofs.Whole.{ready_header, cb_few, cr_few}
 use Rattle.mmr.proofs.Meaning.{cb_means, cr_means}
 
 -- ---- one code: by the piece that was found, and terms that were made up to an order
-pub slice_found : (f : Format) → FormatGiven f → (c : Side) → SideGiven f.d c → (cr : Bool) (s : ℕ) {p t : ℕ} (ts : List ℕ) → t ≡ at ts (own cr) → Agreed (7 * f.order + 1) ts (slice_terms f cr s) → Searched c s p → piece_value f.order f.d (at c.kinds p) (row_of c p) t ts ≡ slice_by f c cr s
+pub slice_found : (b : Both) (s : ℕ) (cr : Bool) {order p m : ℕ} (ts : List ℕ) → order ≡ b.format.order → Agreed (7 * b.format.order + 1) ts (slice_terms b.format cr s) → Searched (cond cr b.cr b.cb) s p → m ≡ piece_value order b.format.d (kind_at (cond cr b.cr b.cb) p) (row_of (cond cr b.cr b.cb) p) (at ts (own cr)) ts → m ≡ slice_by b cr s
 unfolding slice_by
-slice_found f format c g cr s ts is_own a e = step_maps format c g (own cr) ts (slice_terms f cr s) is_own a s e (first cr)
-  where
-    first : (cr : Bool) → own cr < 8
-    first true = omega arith
-    first false = omega arith
+slice_found b s true ts o a e is = is ∙ step_maps b.given.format b.cr b.given.cr 3 ts (slice_terms b.format true s) o a s e (omega arith)
+slice_found b s false ts o a e is = is ∙ step_maps b.given.format b.cb b.given.cb 2 ts (slice_terms b.format false s) o a s e (omega arith)
 
 -- ---- tables of the same codes
 same_codes : (n m : ℕ) {f g : ℕ → ℕ} → ((j : ℕ) → f j ≡ g j) → table n (coded true m f) ≡ table n (coded true m g)
@@ -52,34 +47,20 @@ same_codes n m {f} {g} same =
     let k : j < n = rw (length-table n (coded true m f)) at b in
     at_table n (coded true m f) j k ∙ (rw (same j)) ∙ sym (at_table n (coded true m g) j k))
 
--- a component that is ready maps as its pieces do
-pub slice_ready : (f : Format) (c : Component) (s : Side) (cr : Bool) → ReadySide f.d c s → Highest c (pieces_used c.n) f.order → table 1024 (coded true f.codes (slice_by f s cr)) ≡ table 1024 (coded true f.codes (slice_of f c cr))
-unfolding slice_by slice_of
-slice_ready f c s cr r top = same_codes 1024 f.codes (λ x. ready_maps f.d c s r f.order top x _ _)
-
 -- ---- by a plan that can be computed with
-pub slice_given : (p : Plan) (f : Format) (c : Component) (cr : Bool) → PlanReady p → FormatFor p f → c ≡ sliced p cr → SliceGiven f c
-slice_given p f c cr ready g e = rw e (by_component cr)
-  where
-    in_format : (c : Component) → count_fits c.n ≡ true → (f : Format) → f ≡ format_of p f.order → Highest c (pieces_used c.n) f.order → SliceGiven f c
-    in_format c few f is top =
-        rw is (record {
-          format = record { shallow = omega (arith, (ready_header p ready).base_depth); all_codes = refl; some_order = top.some; few_orders = top.most };
-          shallow = (ready_header p ready).shallow;
-          few = few;
-          highest = top;
-        })
+module _ (p : Plan) (ready : PlanReady p) (b : Both) (g : FormatFor p b.format) (r1 : ReadySide p.header.d p.cb b.cb) (r2 : ReadySide p.header.d p.cr b.cr) where
+  -- the order of a format is in no entry
+  by_component : (f : Format) → f ≡ format_of p f.order → Highest p.cb (pieces_used p.cb.n) f.order → Highest p.cr (pieces_used p.cr.n) f.order → (cr : Bool) (x : ℕ) → (let ts = slice_terms f cr x in mapped_side f.order f.d (cond cr b.cr b.cb) x (at ts (own cr)) ts) ≡ slice_of (format_of p 3) (sliced p cr) cr x
+  unfolding slice_of slice_terms
+  by_component f is t1 t2 true x = rw is (ready_maps p.header.d p.cr b.cr r2 f.order t2 x _ _)
+  by_component f is t1 t2 false x = rw is (ready_maps p.header.d p.cb b.cb r1 f.order t1 x _ _)
 
-    by_component : (cr : Bool) → SliceGiven f (sliced p cr)
-    by_component true = in_format p.cr (cr_few p ready) f g.is g.cr
-    by_component false = in_format p.cb (cb_few p ready) f g.is g.cb
-
--- the order of a format is in no entry
-pub slice_is : (p : Plan) (f : Format) (c : Component) (cr : Bool) → PlanReady p → FormatFor p f → c ≡ sliced p cr → table 1024 (coded true f.codes (slice_of f c cr)) ≡ slice_table p cr
-unfolding slice_table slice_of slice_terms
-slice_is p f c cr ready g e =
-    ap (λ (x : Format). table 1024 (coded true x.codes (slice_of x c cr))) g.is
-    ∙ rw (e, ready) refl
+  pub slice_is : (cr : Bool) → table 1024 (coded true b.format.codes (slice_by b cr)) ≡ slice_table p cr
+  unfolding slice_table slice_by
+  slice_is cr =
+      ap (λ (f : Format). table 1024 (coded true f.codes (slice_by b cr))) g.is
+      ∙ same_codes 1024 (2 ^ bl_depth p.header) (by_component b.format g.is g.cb g.cr cr)
+      ∙ rw ready refl
 
 pub no_slice : (p : Plan) (cr : Bool) → numbers_fit p.header p.y.n p.cb.n p.cr.n ≡ false → ◌≡◌ {A = List ℕ} (replicate 1024 0) (slice_table p cr)
 unfolding slice_table

@@ -15,11 +15,15 @@ use Rattle.runs.specs.inner.Loops.{at}
 use Rattle.runs.proofs.Between.{between_empty, between_more}
 use Rattle.runs.proofs.Painting.{length-painted, at-painted, is_painted, painted_none, painted_cong}
 use Rattle.sums.specs.declared.Cut.{Cut}
-use Rattle.mmr.specs.declared.columns.Format.{Format}
+use Rattle.mmr.specs.declared.format.Format.{Format}
+use Rattle.mmr.specs.declared.ready.Ready.{Ready}
+use Rattle.mmr.specs.declared.both.Both.{Both}
+use Rattle.mmr.specs.declared.inputs.Inputs.{Inputs}
 use Rattle.mmr.specs.declared.columns.Place.{Place}
 use Rattle.mmr.specs.inner.Terms.{Agreed}
-use Rattle.mmr.specs.inner.Steps.{Side, row_of, piece_value, mapped_side, SideGiven}
-use Rattle.mmr.specs.inner.Columns.{Both, finished_by, cb_column, cr_column, row_value, two_rows, FormatGiven, BothGiven, column_terms}
+use Rattle.mmr.specs.inner.Steps.{row_of, kind_at, piece_value, mapped_side}
+use Rattle.mmr.specs.inner.Given.{FormatGiven, SideGiven}
+use Rattle.mmr.specs.inner.Columns.{finished_by, cb_column, cr_column, row_value, two_rows, column_terms}
 use Rattle.mmr.proofs.ByKind.{Searched, step_maps}
 
 -- a value stored over a painting is painted too
@@ -58,26 +62,26 @@ module _ (p : Place) (g : ℕ → ℕ) (l : List ℕ) where
       joined : (j : ℕ) → ((two_rows p i j || eqb j (p.cb + i)) || eqb j (p.cr + i)) ≡ two_rows p (i + 1) j
       joined j = turned (between p.cb (p.cb + i) j) (between p.cr (p.cr + i) j) _ _ ∙ ap₂ ◌||◌ (more p.cb j) (more p.cr j)
 
--- a sample at index j, which is k: by the step of the piece that was found it is finished as it is mapped
-module _ {f : Format} (format : FormatGiven f) (c : Side) (g : SideGiven f.d c) (own : ℕ) (ts us : List ℕ) (a : Agreed (7 * f.order + 1) ts us) (first : own < 8) where
-  finished_side : (cut : Cut) (raised base enhancement : List ℕ) {j k p : ℕ} → j ≡ k → Searched c (at base j) p → finished_by cut (piece_value f.order f.d (at c.kinds p) (row_of c p) (at ts own) ts) raised enhancement j ≡ finished_by cut (mapped_side f.order f.d c (at base k) (at us own) us) raised enhancement k
-  finished_side cut raised base enhancement e q =
+-- a sample at index j, which is k, that was mapped by the step of the piece that was found: it is finished as it is mapped
+module _ {f : Format} (format : FormatGiven f) (c : Ready) (g : SideGiven f.d c) (own : ℕ) {order : ℕ} (ts us : List ℕ) (o : order ≡ f.order) (a : Agreed (7 * f.order + 1) ts us) (first : own < 8) where
+  finished_side : (cut : Cut) (raised base enhancement : List ℕ) {j k p m : ℕ} → j ≡ k → Searched c (at base j) p → m ≡ piece_value order f.d (kind_at c p) (row_of c p) (at ts own) ts → finished_by cut m raised enhancement j ≡ finished_by cut (mapped_side f.order f.d c (at base k) (at us own) us) raised enhancement k
+  finished_side cut raised base enhancement e q is =
       ap₂ (λ (v i : ℕ). finished_by cut v raised enhancement i)
-      (step_maps format c g own ts us refl a _ q first ∙ ap (λ (i : ℕ). mapped_side f.order f.d c (at base i) (at us own) us) e)
+      (is ∙ step_maps format c g own ts us o a _ q first ∙ ap (λ (i : ℕ). mapped_side f.order f.d c (at base i) (at us own) us) e)
       e
 
 -- what is finished at the indices of a column belongs there
-module _ (f : Format) (b : Both) (g : BothGiven f b) (cut : Cut) (p : Place) (base enhancement : List ℕ) (apart : p.cb + p.columns ≤ p.cr) (i : ℕ) (few : i < p.columns) (ts : List ℕ) (a : Agreed (7 * f.order + 1) ts (column_terms f p base i)) {j q : ℕ} where
-  pub at_cb : j ≡ p.cb + i → Searched b.cb (at base j) q → finished_by cut (piece_value f.order f.d (at b.cb.kinds q) (row_of b.cb q) (at ts 2) ts) b.cb_raised enhancement j ≡ row_value f b cut p base enhancement (p.cb + i)
+module _ (b : Both) (v : Inputs) (p : Place) (apart : p.cb + p.columns ≤ p.cr) (i : ℕ) (few : i < p.columns) {order : ℕ} (ts : List ℕ) (o : order ≡ b.format.order) (a : Agreed (7 * b.format.order + 1) ts (column_terms b.format p v.base.now i)) {j q m : ℕ} where
+  pub at_cb : j ≡ p.cb + i → Searched b.cb (at v.base.now j) q → m ≡ piece_value order b.format.d (kind_at b.cb q) (row_of b.cb q) (at ts 2) ts → finished_by v.cut m v.cb_raised.now v.enhancement.now j ≡ row_value b v p (p.cb + i)
   unfolding row_value cb_column
-  at_cb e is =
+  at_cb e found is =
       let h : p.cb + i < p.cr = omega arith in
-      finished_side g.format b.cb g.cb 2 ts _ a (omega arith) cut b.cb_raised base enhancement e is
-      ∙ rw (lt-ltb (p.cb + i) p.cr h) (sym (ap (cb_column f b cut p base enhancement) (add-sub_cancel_left p.cb i)))
+      finished_side b.given.format b.cb b.given.cb 2 ts _ o a (omega arith) v.cut v.cb_raised.now v.base.now v.enhancement.now e found is
+      ∙ rw (lt-ltb (p.cb + i) p.cr h) (sym (ap (cb_column b.format b.cb v p) (add-sub_cancel_left p.cb i)))
 
-  pub at_cr : j ≡ p.cr + i → Searched b.cr (at base j) q → finished_by cut (piece_value f.order f.d (at b.cr.kinds q) (row_of b.cr q) (at ts 3) ts) b.cr_raised enhancement j ≡ row_value f b cut p base enhancement (p.cr + i)
+  pub at_cr : j ≡ p.cr + i → Searched b.cr (at v.base.now j) q → m ≡ piece_value order b.format.d (kind_at b.cr q) (row_of b.cr q) (at ts 3) ts → finished_by v.cut m v.cr_raised.now v.enhancement.now j ≡ row_value b v p (p.cr + i)
   unfolding row_value cr_column
-  at_cr e is =
+  at_cr e found is =
       let h : p.cr ≤ p.cr + i = omega arith in
-      finished_side g.format b.cr g.cr 3 ts _ a (omega arith) cut b.cr_raised base enhancement e is
-      ∙ rw (le-ltb (p.cr + i) p.cr h) (sym (ap (cr_column f b cut p base enhancement) (add-sub_cancel_left p.cr i)))
+      finished_side b.given.format b.cr b.given.cr 3 ts _ o a (omega arith) v.cut v.cr_raised.now v.base.now v.enhancement.now e found is
+      ∙ rw (le-ltb (p.cr + i) p.cr h) (sym (ap (cr_column b.format b.cr v p) (add-sub_cancel_left p.cr i)))

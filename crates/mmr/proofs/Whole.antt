@@ -6,9 +6,10 @@ use Prim.Native.Nat.{ℕ, ◌+◌, ◌≤◌, max}
 use native.Mathlib.Nat.{mul-le-mul_left, mul_assoc}
 use native.Mathlib.Omega.{arith}
 use lib.Dec.{leb, ltb, eqb}
-use lib.IntN.{ℤ}
 use borrow.Author.Tests.{leb-true, eqb-true}
+use Rattle.runs.specs.Runs.{painted}
 use Rattle.runs.specs.inner.Loops.{at}
+use Rattle.runs.proofs.Painting.{painted_cong}
 use Rattle.spans.specs.inner.Spans.{entry}
 use Rattle.picture.specs.Picture.{picture_size}
 use Rattle.picture.specs.inner.Planes.{planes}
@@ -24,13 +25,18 @@ use Rattle.plan.specs.inner.Facts.{HeaderFacts}
 use Rattle.plan.proofs.Facts.{header-kept}
 use Rattle.plan.proofs.Truths.{both}
 use Rattle.rules.specs.Rules.{extent}
-use Rattle.mmr.specs.declared.columns.Format.{Format}
-use Rattle.mmr.specs.inner.Steps.{Side, side, mapped_side}
-use Rattle.mmr.specs.inner.Columns.{column_terms, finished_by, cb_column, cr_column, BothGiven}
-use Rattle.mmr.specs.inner.Columns as columns
-use Rattle.mmr.specs.inner.Rows.{plane_value, RowsGiven}
+use Rattle.picture.specs.declared.Planes.{Planes}
+use Rattle.mmr.specs.declared.format.Format.{Format}
+use Rattle.mmr.specs.declared.ready.Ready.{Ready}
+use Rattle.mmr.specs.declared.both.Both.{Both}
+use Rattle.mmr.specs.declared.inputs.Inputs.{Inputs}
+use Rattle.mmr.specs.declared.columns.Place.{Place}
+use Rattle.mmr.specs.inner.Steps.{mapped_side}
+use Rattle.mmr.specs.inner.Given.{BothGiven}
+use Rattle.mmr.specs.inner.Columns.{column_terms, finished_by, cb_column, cr_column}
+use Rattle.mmr.specs.inner.Rows.{chroma_rows, plane_value, RowsGiven}
 use Rattle.mmr.specs.inner.Ready.{Highest}
-use Rattle.mmr.specs.inner.Chroma.{format_of, composed_chroma, chroma_value, pairs_fit, PlanReady, FormatFor, ChromaGiven, ReadySide}
+use Rattle.mmr.specs.inner.Chroma.{format_of, composed_chroma, chroma_value, chroma_painted, pairs_fit, runs_fit, PlanReady, FormatFor, ReadySide}
 use Rattle.mmr.proofs.Prepared.{ready_given, ready_maps}
 
 -- ---- what the tests give
@@ -72,51 +78,55 @@ module _ (p : Plan) (e : PlanReady p) where
         inside = omega (arith, few, s, four);
       }
 
-module _ {p : Plan} {f : Format} {first last b e o : ℕ} (g : ChromaGiven p f first last b e o) where
-  abbrev sizes : (eqb b (picture_size (extent p.header)) ≡ true) × ((eqb e (picture_size (extent p.header)) && eqb o (picture_size (extent p.header))) ≡ true)
-  sizes = both (eqb b (picture_size (extent p.header))) _ g.runs
-
-  pub rows_in : RowsGiven (planes (extent p.header)) first last b × (RowsGiven (planes (extent p.header)) first last e × RowsGiven (planes (extent p.header)) first last o)
-  rows_in =
-      let rest = both (eqb e (picture_size (extent p.header))) _ sizes.1 in
-      (rows b sizes.0, (rows e rest.0, rows o rest.1))
+  -- of which the runs are
+  pub rows_in : (first last base enhancement output : ℕ) → pairs_fit h first last ≡ true → runs_fit h base enhancement output ≡ true → {q : Planes} → q ≡ planes (extent h) → RowsGiven q first last base × (RowsGiven q first last enhancement × RowsGiven q first last output)
+  rows_in first last base enhancement output pairs runs {q} e =
+      let size = picture_size (extent h) in
+      let t = both (eqb base size) _ runs in
+      let rest = both (eqb enhancement size) _ t.1 in
+      (rows base t.0, (rows enhancement rest.0, rows output rest.1))
     where
-      rows : (n : ℕ) → eqb n (picture_size (extent p.header)) ≡ true → RowsGiven (planes (extent p.header)) first last n
-      rows n t = rows_given p g.ready first last n g.pairs (eqb-true n _ t)
+      rows : (n : ℕ) → eqb n (picture_size (extent h)) ≡ true → RowsGiven q first last n
+      rows n t = rw e (rows_given first last n pairs (eqb-true n _ t))
 
-  pub both-given : (s1 s2 : Side) (raised1 raised2 : List ℕ) → ReadySide p.header.d p.cb s1 → ReadySide p.header.d p.cr s2 → BothGiven f (columns.both s1 raised1 s2 raised2)
-  both-given s1 s2 raised1 raised2 r1 r2 = in_format f g.format.is g.format.cb
+  pub both_given : (f : Format) (cb cr : Ready) → FormatFor p f → ReadySide h.d p.cb cb → ReadySide h.d p.cr cr → BothGiven f cb cr
+  both_given f cb cr g r1 r2 = in_format f g.is g.cb
     where
-      deep : p.header.d ≤ 32
-      deep = (ready_header p g.ready).shallow
-
-      in_format : (f : Format) → f ≡ format_of p f.order → Highest p.cb (pieces_used p.cb.n) f.order → BothGiven f (columns.both s1 raised1 s2 raised2)
+      in_format : (f : Format) → f ≡ format_of p f.order → Highest p.cb (pieces_used p.cb.n) f.order → BothGiven f cb cr
       in_format f is top =
           rw is (record {
-            format = record { shallow = omega (arith, (ready_header p g.ready).base_depth); all_codes = refl; some_order = top.some; few_orders = top.most };
-            cb = ready_given p.header.d p.cb s1 r1 deep;
-            cr = ready_given p.header.d p.cr s2 r2 deep;
+            format = record { shallow = omega (arith, ready_header.base_depth); all_codes = refl; fraction = ready_header.shallow; some_order = top.some; few_orders = top.most };
+            cb = ready_given h.d p.cb cb r1;
+            cr = ready_given h.d p.cr cr r2;
           })
 
 -- ---- a plane's value is the plan's
-side_value : (d : ℕ) (c : Component) (s : Side) → ReadySide d c s → (order : ℕ) → Highest c (pieces_used c.n) order → (raised : List ℕ) (cut : Cut) (base enhancement : List ℕ) (j t : ℕ) (ts : List ℕ) → finished_by cut (mapped_side order d s (at base j) t ts) raised enhancement j ≡ composed_chroma d c raised cut base enhancement j t ts
+side_value : (d : ℕ) (c : Component) (s : Ready) → ReadySide d c s → (order : ℕ) → Highest c (pieces_used c.n) order → (raised : List ℕ) (cut : Cut) (base enhancement : List ℕ) (j t : ℕ) (ts : List ℕ) → finished_by cut (mapped_side order d s (at base j) t ts) raised enhancement j ≡ composed_chroma d c raised cut base enhancement j t ts
 unfolding finished_by composed_chroma
 side_value d c s r order top raised cut base enhancement j t ts = ap (λ (v : ℕ). cut_of cut (v + entry raised (at enhancement j))) (ready_maps d c s r order top (at base j) t ts)
 
-module _ (p : Plan) (s1 s2 : Side) (raised1 raised2 : List ℕ) (cut : Cut) (base enhancement : List ℕ) (r1 : ReadySide p.header.d p.cb s1) (r2 : ReadySide p.header.d p.cr s2) where
-  of_order : (order : ℕ) → Highest p.cb (pieces_used p.cb.n) order → Highest p.cr (pieces_used p.cr.n) order → (j : ℕ) → plane_value (format_of p order) (columns.both s1 raised1 s2 raised2) cut (planes (extent p.header)) base enhancement j ≡ chroma_value p raised1 raised2 cut base enhancement j
-  unfolding plane_value cb_column cr_column column_terms chroma_value
-  of_order order t1 t2 j =
-      ap₂ (cond (ltb j (planes (extent p.header)).cr.start))
-      (side_value p.header.d p.cb s1 r1 order t1 raised1 cut base enhancement _ _ _)
-      (side_value p.header.d p.cr s2 r2 order t2 raised2 cut base enhancement _ _ _)
+module _ (p : Plan) (b : Both) (v : Inputs) (g : FormatFor p b.format) (r1 : ReadySide p.header.d p.cb b.cb) (r2 : ReadySide p.header.d p.cr b.cr) where
+  abbrev s : Planes
+  s = planes (extent p.header)
 
-  pub plan_value : (f : Format) → FormatFor p f → (j : ℕ) → plane_value f (columns.both s1 raised1 s2 raised2) cut (planes (extent p.header)) base enhancement j ≡ chroma_value p raised1 raised2 cut base enhancement j
-  plan_value f g j = ap (λ (x : Format). plane_value x (columns.both s1 raised1 s2 raised2) cut (planes (extent p.header)) base enhancement j) g.is ∙ of_order f.order g.cb g.cr j
+  cb_side : (f : Format) → f ≡ format_of p f.order → Highest p.cb (pieces_used p.cb.n) f.order → (q : Place) (i : ℕ) → cb_column f b.cb v q i ≡ (let ts = column_terms (format_of p 3) q v.base.now i in composed_chroma p.header.d p.cb v.cb_raised.now v.cut v.base.now v.enhancement.now (q.cb + i) (at ts 2) ts)
+  unfolding cb_column column_terms
+  cb_side f is top q i = rw is (side_value p.header.d p.cb b.cb r1 f.order top v.cb_raised.now v.cut v.base.now v.enhancement.now _ _ _)
 
--- the number of pivots is the component's, however it is said
-pub counted : {d m n : ℕ} {c : Component} {pivots kinds : List ℕ} {rows : List (List ℤ)} → ReadySide d c (side n pivots kinds rows) → m ≡ c.n → ReadySide d c (side m pivots kinds rows)
-counted r e = record { arrays = r.arrays; few = r.few; n = e; pivots = r.pivots; kinds = r.kinds; rows = r.rows }
+  cr_side : (f : Format) → f ≡ format_of p f.order → Highest p.cr (pieces_used p.cr.n) f.order → (q : Place) (i : ℕ) → cr_column f b.cr v q i ≡ (let ts = column_terms (format_of p 3) q v.base.now i in composed_chroma p.header.d p.cr v.cr_raised.now v.cut v.base.now v.enhancement.now (q.cr + i) (at ts 3) ts)
+  unfolding cr_column column_terms
+  cr_side f is top q i = rw is (side_value p.header.d p.cr b.cr r2 f.order top v.cr_raised.now v.cut v.base.now v.enhancement.now _ _ _)
+
+  pub plan_value : (j : ℕ) → plane_value b v s j ≡ chroma_value p v.cb_raised.now v.cr_raised.now v.cut v.base.now v.enhancement.now j
+  unfolding plane_value chroma_value
+  plan_value j = ap₂ (cond (ltb j s.cr.start)) (cb_side b.format g.is g.cb _ _) (cr_side b.format g.is g.cr _ _)
+
+  -- and so are the row pairs
+  pub plan_painted : {q : Planes} → q ≡ s → (first last : ℕ) (output : List ℕ) → painted (chroma_rows q first last v.marks.now) (plane_value b v q) output ≡ chroma_painted p first last v.cb_raised.now v.cr_raised.now v.cut v.marks.now v.base.now v.enhancement.now output
+  unfolding chroma_painted
+  plan_painted e first last output =
+      ap (λ (q : Planes). painted (chroma_rows q first last v.marks.now) (plane_value b v q) output) e
+      ∙ painted_cong _ _ _ _ output (λ j h. refl) (λ j h t. plan_value j)
 
 -- an order that is the greater of two
 pub higher_of : {c : Component} {k a : ℕ} (b : ℕ) → b ≤ 3 → Highest c k a → Highest c k (max a b)

@@ -1,21 +1,23 @@
 -- Numbers within a limit, by tests of their sign; arrays that are filled from the front. Assumes nothing.
 use mathlib.Core.Path.{◌≡◌, refl, sym, ◌∙◌}
 use mathlib.Core.Bool.{Bool, true, false, ◌&&◌, and-true}
-use mathlib.Core.List.{List, []}
+use mathlib.Core.List.{List}
 use mathlib.Core.Logic.{⊎_elim}
 use Prim.Native.Nat.{ℕ, zero, suc, ◌+◌, ◌<◌, ◌≤◌, zero-le, suc-le-suc}
 use native.Mathlib.Nat.{eq-or-lt_of_le}
 use native.Mathlib.Omega.{arith}
 use lib.Dec.{leb}
 use lib.IntN.{ℤ, pos, negsuc, nat_abs, neg_ℤ}
-use lib.ListN.{length, set, replicate, length-set}
+use lib.ListN.{get_or, set, replicate, length-set}
 use lib.Seq.{get_or-set_same, get_or-set_other}
 use lib.Signed.{le_z}
 use borrow.Author.Tests.{le-leb, lt-leb, leb-true, leb-false}
-use Rattle.runs.specs.inner.Loops.{at}
 use Rattle.plan.specs.declared.Component.{Component}
 use Rattle.plan.specs.Rule7.{piece_places}
-use Rattle.mmr.specs.inner.Ready.{no_kind, kind_of, piece_at, order_of, Kinds, RowsCopied, Highest}
+use Rattle.mmr.specs.declared.kind.Kind.{Kind}
+use Rattle.mmr.specs.declared.kind.Kind.TheVariants.{Polynomial, Broken}
+use Rattle.mmr.specs.inner.Steps.{piece_at}
+use Rattle.mmr.specs.inner.Ready.{kind_of, order_of, Kinds, Highest}
 
 -- -m ≤ z ≤ m
 pub between_limits : (m : ℕ) (z : ℤ) → (le_z (neg_ℤ (pos m)) z && le_z z (pos m)) ≡ leb (nat_abs z) m
@@ -32,38 +34,24 @@ lower : {j p : ℕ} → j < p + 1 → j ≤ p
 lower h = omega arith
 
 -- the kinds of a component's pieces, one more at a time
-pub kinds_none : (d : ℕ) (c : Component) → Kinds d c 0 (replicate piece_places no_kind)
+pub kinds_none : (d : ℕ) (c : Component) → Kinds d c 0 (replicate piece_places Broken)
 kinds_none d c = record { long = refl; done = λ p h. absurd (omega arith); rest = λ p h b. all piece_places p b }
   where
-    all : (n p : ℕ) → p < n → at (replicate n no_kind) p ≡ no_kind
+    all : (n p : ℕ) → p < n → get_or (replicate n Broken) p Polynomial ≡ Broken
     all zero p b = absurd (omega arith)
     all (suc n) zero b = refl
     all (suc n) (suc p) b = all n p (omega arith)
 
-pub kinds_more : {d : ℕ} {c : Component} {p v : ℕ} {kinds : List ℕ} → Kinds d c p kinds → p < piece_places → v ≡ kind_of d (piece_at c p) → Kinds d c (p + 1) (set kinds p v)
+pub kinds_more : {d : ℕ} {c : Component} {p : ℕ} {v : Kind} {kinds : List Kind} → Kinds d c p kinds → p < piece_places → v ≡ kind_of d (piece_at c p) → Kinds d c (p + 1) (set kinds p v)
 kinds_more {p = p} {v = v} {kinds = kinds} k b e =
     record {
       long = length-set kinds p v ∙ k.long;
-      done = λ j h. ⊎_elim (λ q. rw q (get_or-set_same kinds p v 0 (omega (arith, k.long)) ∙ e)) (λ q. get_or-set_other kinds p j v 0 (λ z. omega arith) ∙ k.done j q) (eq-or-lt_of_le (lower h));
-      rest = λ j h t. get_or-set_other kinds p j v 0 (λ z. omega arith) ∙ k.rest j (omega arith) t;
+      done = λ j h. ⊎_elim (λ q. rw q (get_or-set_same kinds p v Polynomial (rw k.long b) ∙ e)) (λ q. get_or-set_other kinds p j v Polynomial (λ z. omega arith) ∙ k.done j q) (eq-or-lt_of_le (lower h));
+      rest = λ j h t. get_or-set_other kinds p j v Polynomial (λ z. omega arith) ∙ k.rest j (omega arith) t;
     }
 
-pub kinds_all : {d : ℕ} {c : Component} {p n : ℕ} {kinds : List ℕ} → Kinds d c p kinds → p ≡ n → Kinds d c n kinds
+pub kinds_all : {d : ℕ} {c : Component} {p n : ℕ} {kinds : List Kind} → Kinds d c p kinds → p ≡ n → Kinds d c n kinds
 kinds_all k e = rw (← e) k
-
--- and their rows
-pub rows_none : (c : Component) {rows : List (List ℤ)} → length rows ≡ piece_places → RowsCopied c 0 rows
-rows_none c l = record { long = l; row = λ p h. absurd (omega arith) }
-
-pub rows_more : {c : Component} {p : ℕ} {v : List ℤ} {rows : List (List ℤ)} → RowsCopied c p rows → p < piece_places → v ≡ (piece_at c p).row → RowsCopied c (p + 1) (set rows p v)
-rows_more {p = p} {v = v} {rows = rows} k b e =
-    record {
-      long = length-set rows p v ∙ k.long;
-      row = λ j h. ⊎_elim (λ q. rw q (get_or-set_same rows p v [] (rw k.long b) ∙ e)) (λ q. get_or-set_other rows p j v [] (λ z. omega arith) ∙ k.row j q) (eq-or-lt_of_le (lower h));
-    }
-
-pub rows_all : {c : Component} {p n : ℕ} {rows : List (List ℤ)} → RowsCopied c p rows → p ≡ n → RowsCopied c n rows
-rows_all k e = rw (← e) k
 
 -- an order that none so far exceeds
 pub none_higher : (c : Component) → Highest c 0 1

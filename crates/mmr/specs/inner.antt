@@ -2,6 +2,7 @@ pub mod Apart
 pub mod Terms
 pub mod Luma
 pub mod Steps
+pub mod Given
 pub mod Columns
 pub mod Ready
 pub mod Rows

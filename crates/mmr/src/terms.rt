@@ -1,9 +1,20 @@
 // What the coefficients are multiplied by, tt[0] to tt[21], as unsigned numbers of at most 2 ^ 20.
-ghost use Rattle.std.specs.Prelude.{◌≡◌, ◌+◌, ◌-◌, ◌*◌, ◌≤◌, ◌^◌};
+ghost use Rattle.std.specs.Prelude.{◌≡◌, ℕ, ◌+◌, ◌-◌, ◌*◌, ◌≤◌, ◌^◌};
+ghost use Rattle.runs.specs.inner.Loops.{at};
 ghost use Rattle.standard.specs.Mmr.{◌<<◌, terms};
 ghost use Rattle.mmr.specs.inner.Terms.{TermsGiven, Agreed, high_of};
 
 use plan::limits::ROW;
+
+// Terms up to an order; in the places of the others nothing is large.
+#[derive(Clone, Copy)]
+pub(crate) struct Terms {
+    pub order: usize,
+    pub tt: [u64; ROW],
+    ghost some_order: { 1 ≤ order },
+    ghost few_orders: { order ≤ 3 },
+    ghost low: { (i : ℕ) → at tt i ≤ 2 ^ 20 },
+}
 
 // A number of k bits raised to 20.
 fn raise(k: u32, x: u64) -> u64
@@ -33,9 +44,9 @@ fn first_terms(depth: u32, s0: u16, s1: u16, s2: u16) -> [u64; ROW]
     requires { TermsGiven depth s0 s1 s2 }
     ensures { Agreed 8 result (terms depth s0 s1 s2) }
 {
-    let a = s0 as u64;
-    let b = s1 as u64;
-    let c = s2 as u64;
+    let a = u64::from(s0);
+    let b = u64::from(s1);
+    let c = u64::from(s2);
     let t1 = raise(depth, a);
     let t2 = raise(depth, b);
     let t3 = raise(depth, c);
@@ -49,27 +60,22 @@ fn first_terms(depth: u32, s0: u16, s1: u16, s2: u16) -> [u64; ROW]
 }
 
 // The terms up to an order. Each of the second is the square of one of the first, and each of the third the product of both.
-pub(crate) fn terms_of(order: usize, depth: u32, s0: u16, s1: u16, s2: u16) -> [u64; ROW]
-    requires order_bound { order ≤ 3 }
+pub(crate) fn terms_of(order: usize, depth: u32, s0: u16, s1: u16, s2: u16) -> Terms
+    requires order_bound { (1 ≤ order) × (order ≤ 3) }
     requires terms_given { TermsGiven depth s0 s1 s2 }
-    ensures { Agreed (7 * order + 1) result (terms depth s0 s1 s2) }
+    ensures order { result.order ≡ order }
+    ensures terms { Agreed (7 * order + 1) result.tt (terms depth s0 s1 s2) }
 {
-    let mut ts = first_terms(depth, s0, s1, s2);
-    if order < 2 {
-        return ts;
+    let mut tt = first_terms(depth, s0, s1, s2);
+    if order >= 2 {
+        for j in 1..8 {
+            tt[7 + j] = high(tt[j], tt[j]);
+        }
     }
-    let mut j: usize = 1;
-    while j < 8 {
-        ts[7 + j] = high(ts[j], ts[j]);
-        j += 1;
+    if order >= 3 {
+        for k in 1..8 {
+            tt[14 + k] = high(tt[k], tt[7 + k]);
+        }
     }
-    if order < 3 {
-        return ts;
-    }
-    let mut k: usize = 1;
-    while k < 8 {
-        ts[14 + k] = high(ts[k], ts[7 + k]);
-        k += 1;
-    }
-    ts
+    Terms { order, tt }
 }

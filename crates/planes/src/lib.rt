@@ -10,6 +10,7 @@ ghost use Rattle.planes.specs.inner.ByTables.{plain_chroma, enhanced_chroma, pla
 
 use mapping::mapped_table;
 use mmr::compose_chroma;
+use mmr::inputs::Inputs;
 use picture::Plane;
 use plan::{Header, Nlq, Plan};
 use residual::{cut_numbers, finished_table, no_residual, residual_pair, residual_table};
@@ -63,9 +64,15 @@ fn plain_chroma(plan: Plan, r: Rows, marks: &[u8], base: &[u16], output: &mut [u
 {
     let none = no_residual(plan.header);
     let cut = cut_numbers(plan.header);
-    compose_chroma(
-        plan, r.first, r.last, &none, &none, cut, marks, base, base, output,
-    );
+    let inputs = Inputs {
+        cb_raised: &none,
+        cr_raised: &none,
+        cut: cut,
+        marks: marks,
+        base: base,
+        enhancement: base,
+    };
+    compose_chroma(plan, r.first, r.last, &inputs, output);
 }
 
 // With residual all row pairs are written: no marks are handed on.
@@ -82,18 +89,15 @@ fn enhanced_chroma(
     let raised = residual_pair(plan.header, plan.cb.nlq, plan.cr.nlq);
     let blue = raised.first;
     let red = raised.second;
-    compose_chroma(
-        plan,
-        r.first,
-        r.last,
-        &blue,
-        &red,
-        cut,
-        &[],
-        base,
-        enhancement,
-        output,
-    );
+    let inputs = Inputs {
+        cb_raised: &blue,
+        cr_raised: &red,
+        cut: cut,
+        marks: &[],
+        base: base,
+        enhancement: enhancement,
+    };
+    compose_chroma(plan, r.first, r.last, &inputs, output);
 }
 
 // Without residual. Whatever is handed the plan or a component comes before anything is written: they are large, and what

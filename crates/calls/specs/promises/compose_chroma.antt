@@ -1,4 +1,4 @@
--- mmr::compose_chroma(plan, first, last, raised1, raised2, cut, marks, base, enhancement, output)
+-- mmr::compose_chroma(plan, first, last, inputs, output), the inputs being raised1, raised2, cut, marks, base, enhancement
 use Rattle.calls.specs.Lent.{Lent}
 use Rattle.mmr.specs.inner.Chroma.{chroma_after}
 use Rattle.plan.specs.declared.Plan.{Plan}

@@ -8,7 +8,7 @@ use Rattle.plan.specs.declared.Plan.{Plan}
 use Rattle.plan.specs.Ranges.{most_n, bl_depth}
 use Rattle.plan.specs.Rule7.{pieces_used}
 use Rattle.plan.proofs.Shifting.{one_shifted}
-use Rattle.mmr.specs.declared.columns.Ends.{Ends}
+use Rattle.mmr.specs.declared.format.Ends.{Ends}
 use Rattle.mmr.specs.inner.Ready.{Highest}
 use Rattle.mmr.specs.inner.Chroma.{ends_of, FormatFor, PlanReady}
 use Rattle.mmr.proofs.Whole.{ready_header, y_few, cb_few, cr_few, higher_of, higher_of_second}
@@ -27,33 +27,27 @@ made p codes order a b y cb cr e o f g h s t =
     rw (e, o, f, g, h) (record { is = refl; cb = higher_of b t.most s; cr = higher_of_second a s.most t })
 
 pub returns : goal.returns
-returns c =
-    made c.args.plan _ _ _ _ _ _ _ (all c.args.plan c.requires) c.greater-order.ensures c.ends_of-y.ensures c.ends_of-blue.ensures c.ends_of-red.ensures c.highest_order.ensures c.highest_order-2.ensures
+returns c = made c.args.p.now _ _ _ _ _ _ _ (all c.args.p.now c.requires) c.max.ensures c.of.ensures c.of-2.ensures c.of-3.ensures c.highest_order.ensures c.highest_order-2.ensures
 
 pub highest_order-requires : goal.highest_order-requires
-highest_order-requires c =
-    leb-true _ most_n (cb_few c.args.plan c.requires)
+highest_order-requires c = leb-true _ most_n (cb_few c.args.p.now c.requires)
 
 pub highest_order-requires-2 : goal.highest_order-requires-2
-highest_order-requires-2 c =
-    leb-true _ most_n (cr_few c.args.plan c.requires)
+highest_order-requires-2 c = leb-true _ most_n (cr_few c.args.p.now c.requires)
 
-pub ends_of-y-requires : goal.ends_of-y-requires
-ends_of-y-requires c =
-    leb-true _ most_n (y_few c.args.plan c.requires)
+pub of-requires : goal.of-requires
+of-requires c = leb-true _ most_n (y_few c.args.p.now c.requires)
 
-pub ends_of-blue-requires : goal.ends_of-blue-requires
-ends_of-blue-requires c =
-    leb-true _ most_n (cb_few c.args.plan c.requires)
+pub of-requires-2 : goal.of-requires-2
+of-requires-2 c = leb-true _ most_n (cb_few c.args.p.now c.requires)
 
-pub ends_of-red-requires : goal.ends_of-red-requires
-ends_of-red-requires c =
-    leb-true _ most_n (cr_few c.args.plan c.requires)
+pub of-requires-3 : goal.of-requires-3
+of-requires-3 c = leb-true _ most_n (cr_few c.args.p.now c.requires)
 
 pub overflow_shl-result : goal.overflow_shl-result
-overflow_shl-result c =
-    omega (arith, shallow c.args.plan c.requires)
+overflow_shl-result c = omega (arith, shallow c.args.p.now c.requires)
 
 pub overflow_cast-result-2 : goal.overflow_cast-result-2
 overflow_cast-result-2 c =
-    record { fits = omega (arith, all c.args.plan c.requires, pow_mono {i = c.args.plan.header.bl + 8} {j = 10} (omega (arith, shallow c.args.plan c.requires))) }
+    let p = c.args.p.now in
+    record { fits = omega (arith, all p c.requires, pow_mono {i = p.header.bl + 8} {j = 10} (omega (arith, shallow p c.requires))) }

@@ -1,6 +1,5 @@
 -- What the code sums in the place of the standard's sum: integer parts and fractions apart, so that 64 bits hold them.
 use Rattle.std.specs.Prelude.{List, ℕ, zero, suc, ◌+◌, ◌-◌, ◌*◌, ◌%◌, ◌^◌, ◌≤◌, ℤ, pos, negsuc, nat_abs, ◌+ℤ◌, ◌*ℤ◌, get_or}
-use Rattle.runs.specs.inner.Loops.{at}
 
 -- coefficient i of a row
 abbrev pub coef : List ℤ → ℕ → ℤ
@@ -20,11 +19,10 @@ unfoldable pub part_sum : (ℕ → ℕ) → (ℕ → ℕ) → ℕ → ℕ
 part_sum p t zero = 0
 part_sum p t (suc k) = part_sum p t k + p k * t k
 
--- the first `count` terms of a row whose coefficients have at most so large an absolute value
-pub record SumGiven (most count : ℕ) (row : List ℤ) (ts : List ℕ) : Type 0 where
+-- so many terms of a row whose coefficients have at most so large an absolute value
+pub record SumGiven (most count : ℕ) (row : List ℤ) : Type 0 where
   pub few : count ≤ 22
   pub coefficient : (i : ℕ) → nat_abs (coef row i) ≤ most
-  pub term : (i : ℕ) → at ts i ≤ 2 ^ 20
 
 -- an absolute value of which one product a term is enough: 22 x 2 ^ 38 x 2 ^ 20 is less than 2 ^ 63
 abbrev pub narrow_most : ℕ

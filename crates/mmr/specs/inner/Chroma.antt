@@ -1,5 +1,5 @@
 -- Row pairs of Cb and Cr composed by a plan of which a component has MMR pieces, whatever plan, samples and tables are handed over.
-use Rattle.std.specs.Prelude.{◌≡◌, Bool, true, ◌&&◌, cond, List, ℕ, ◌+◌, ◌-◌, ◌/◌, ◌%◌, ◌^◌, leb, ltb, eqb, length}
+use Rattle.std.specs.Prelude.{◌≡◌, Bool, true, ◌&&◌, cond, List, ℕ, ◌+◌, ◌-◌, ◌/◌, ◌%◌, ◌^◌, ◌≤◌, leb, ltb, eqb, length}
 use Rattle.runs.specs.Runs.{painted}
 use Rattle.runs.specs.inner.Loops.{at}
 use Rattle.spans.specs.inner.Spans.{entry}
@@ -10,23 +10,20 @@ use Rattle.sums.specs.inner.Sums.{cut_of}
 use Rattle.plan.specs.declared.Header.{Header}
 use Rattle.plan.specs.declared.Component.{Component}
 use Rattle.plan.specs.declared.Plan.{Plan}
-use Rattle.plan.specs.Ranges.{bl_depth, header_fits, count_fits}
-use Rattle.plan.specs.Rule7.{piece_places, pieces_used}
+use Rattle.plan.specs.Ranges.{most_n, bl_depth, header_fits, count_fits}
+use Rattle.plan.specs.Rule7.{pieces_used}
 use Rattle.plan.specs.inner.Facts.{Arrays}
 use Rattle.rules.specs.Rules.{extent}
 use Rattle.steps.specs.inner.Steps.{pivot_table}
-use Rattle.mmr.specs.declared.columns.Ends.{Ends}
-use Rattle.mmr.specs.declared.columns.Format.{Format}
-use Rattle.mmr.specs.inner.Steps.{Side}
+use Rattle.mmr.specs.declared.format.Ends.{Ends}
+use Rattle.mmr.specs.declared.format.Format.{Format}
+use Rattle.mmr.specs.declared.ready.Ready.{Ready}
 use Rattle.mmr.specs.inner.Columns.{column_terms}
 use Rattle.mmr.specs.inner.Rows.{place_of, chroma_rows}
-use Rattle.mmr.specs.inner.Ready.{mapped_chroma, Kinds, RowsCopied, Highest}
-
-abbrev pub ends_by : ℕ → List ℕ → Ends
-ends_by n preds = let pivots = pivot_table preds in record { n = n; first = at pivots 0; last = at pivots (n + 1) }
+use Rattle.mmr.specs.inner.Ready.{mapped_chroma, Kinds, Highest}
 
 abbrev pub ends_of : Component → Ends
-ends_of c = ends_by c.n c.preds
+ends_of c = let pivots = pivot_table c.preds in record { first = at pivots 0; last = at pivots (c.n + 1) }
 
 -- of an order
 abbrev pub format_of : Plan → ℕ → Format
@@ -91,17 +88,10 @@ pub record FormatFor (p : Plan) (f : Format) : Type 0 where
   pub cb : Highest p.cb (pieces_used p.cb.n) f.order
   pub cr : Highest p.cr (pieces_used p.cr.n) f.order
 
-pub record ChromaGiven (p : Plan) (f : Format) (first last base enhancement output : ℕ) : Type 0 where
-  pub ready : PlanReady p
-  pub format : FormatFor p f
-  pub pairs : pairs_fit p.header first last ≡ true
-  pub runs : runs_fit p.header base enhancement output ≡ true
-
 -- a component as it was made ready
-pub record ReadySide (d : ℕ) (c : Component) (s : Side) : Type 0 where
+pub record ReadySide (d : ℕ) (c : Component) (s : Ready) : Type 0 where
   pub arrays : Arrays c
-  pub few : count_fits c.n ≡ true
-  pub n : s.n ≡ c.n
+  pub few : c.n ≤ most_n
+  pub component : s.component.now ≡ c
   pub pivots : s.pivots ≡ pivot_table c.preds
   pub kinds : Kinds d c (pieces_used c.n) s.kinds
-  pub rows : RowsCopied c piece_places s.rows

@@ -3,10 +3,10 @@ use Rattle.std.specs.Prelude.{◌≡◌, Bool, cond, ◌||◌, List, ℕ, ◌-�
 use Rattle.marks.specs.inner.Marks.{not_full}
 use Rattle.picture.specs.declared.Planes.{Planes}
 use Rattle.picture.specs.inner.Planes.{row_start, in_rows}
-use Rattle.sums.specs.declared.Cut.{Cut}
-use Rattle.mmr.specs.declared.columns.Format.{Format}
+use Rattle.mmr.specs.declared.both.Both.{Both}
+use Rattle.mmr.specs.declared.inputs.Inputs.{Inputs}
 use Rattle.mmr.specs.declared.columns.Place.{Place}
-use Rattle.mmr.specs.inner.Columns.{Both, cb_column, cr_column}
+use Rattle.mmr.specs.inner.Columns.{cb_column, cr_column}
 
 -- where the rows of row pair k lie
 abbrev pub place_of : Planes → ℕ → Place
@@ -21,11 +21,11 @@ abbrev pub chroma_rows : Planes → ℕ → ℕ → List ℕ → ℕ → Bool
 chroma_rows p first last marks = of_both p (not_full first last marks)
 
 -- at an index: Cb lies before Cr, and of an index within a plane the row pair and the column are quotient and remainder
-unfoldable pub plane_value : Format → Both → Cut → Planes → List ℕ → List ℕ → ℕ → ℕ
-plane_value f b cut p base enhancement j =
+unfoldable pub plane_value : Both → Inputs → Planes → ℕ → ℕ
+plane_value b v p j =
     cond (ltb j p.cr.start)
-    (let m = j - p.cb.start in cb_column f b cut (place_of p (m / p.cb.row)) base enhancement (m % p.cb.row))
-    (let m = j - p.cr.start in cr_column f b cut (place_of p (m / p.cr.row)) base enhancement (m % p.cr.row))
+    (let m = j - p.cb.start in cb_column b.format b.cb v (place_of p (m / p.cb.row)) (m % p.cb.row))
+    (let m = j - p.cr.start in cr_column b.format b.cr v (place_of p (m / p.cr.row)) (m % p.cr.row))
 
 -- row pairs of a picture that is a run of n samples
 pub record RowsGiven (p : Planes) (first last n : ℕ) : Type 0 where

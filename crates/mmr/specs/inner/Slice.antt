@@ -1,16 +1,16 @@
 -- A slice through the mapping of Cb or of Cr: luma and the other chroma sample are at the middle code.
-use Rattle.std.specs.Prelude.{◌≡◌, Bool, true, cond, List, ℕ, ◌/◌, ◌^◌, ◌≤◌}
+use Rattle.std.specs.Prelude.{Bool, cond, List, ℕ, ◌/◌, ◌^◌}
 use Rattle.runs.specs.inner.Loops.{at}
 use Rattle.runs.specs.inner.Tables.{table, coded}
 use Rattle.standard.specs.Mmr.{terms}
 use Rattle.plan.specs.declared.Component.{Component}
 use Rattle.plan.specs.declared.Plan.{Plan}
-use Rattle.plan.specs.Ranges.{bl_depth, count_fits}
-use Rattle.plan.specs.Rule7.{pieces_used}
-use Rattle.mmr.specs.declared.columns.Format.{Format}
-use Rattle.mmr.specs.inner.Steps.{Side, mapped_side}
-use Rattle.mmr.specs.inner.Columns.{code_of, FormatGiven}
-use Rattle.mmr.specs.inner.Ready.{mapped_chroma, Highest}
+use Rattle.plan.specs.Ranges.{bl_depth}
+use Rattle.mmr.specs.declared.format.Format.{Format}
+use Rattle.mmr.specs.declared.both.Both.{Both}
+use Rattle.mmr.specs.inner.Steps.{mapped_side}
+use Rattle.mmr.specs.inner.Columns.{code_of}
+use Rattle.mmr.specs.inner.Ready.{mapped_chroma}
 use Rattle.mmr.specs.inner.Chroma.{format_of, numbers_fit}
 
 -- the component that goes through its codes, Cr or Cb, and which of the terms is its own
@@ -39,13 +39,6 @@ slice_table p cr =
     table 1024
     (coded (numbers_fit p.header p.y.n p.cb.n p.cr.n) (2 ^ bl_depth p.header) (slice_of (format_of p 3) (sliced p cr) cr))
 
--- what s is mapped to by a component that was made ready
-unfoldable pub slice_by : Format → Side → Bool → ℕ → ℕ
-slice_by f c cr s = let ts = slice_terms f cr s in mapped_side f.order f.d c s (at ts (own cr)) ts
-
--- a format and a component of one plan
-pub record SliceGiven (f : Format) (c : Component) : Type 0 where
-  pub format : FormatGiven f
-  pub shallow : f.d ≤ 32
-  pub few : count_fits c.n ≡ true
-  pub highest : Highest c (pieces_used c.n) f.order
+-- what s is mapped to by components that were made ready
+unfoldable pub slice_by : Both → Bool → ℕ → ℕ
+slice_by b cr s = let ts = slice_terms b.format cr s in mapped_side b.format.order b.format.d (cond cr b.cr b.cb) s (at ts (own cr)) ts

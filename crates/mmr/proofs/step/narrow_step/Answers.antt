@@ -19,14 +19,16 @@ use Rattle.mmr.proofs.step.narrow_step.Goals as goal
 cut_sum : (d : ℕ) {z : ℤ} (row : List ℤ) (ts : List ℕ) (k n : ℕ) {r : ℕ} → d ≤ 32 → SFits w64 z → r ≡ cut_by d (to_z w64 (of_z w64 z)) → z ≡ whole_sum (coef row) (at ts) k → k ≡ n → r ≡ cut d (whole_sum (coef row) (at ts) n)
 cut_sum d {z} row ts k n h f e s q = e ∙ is_cut d h (to_z w64 (of_z w64 z)) ∙ ap (cut d) (to_z-of_z f ∙ s ∙ ap (whole_sum (coef row) (at ts)) q)
 
-pub returns-then-order-eq1 : goal.returns-then-order-eq1
-returns-then-order-eq1 c =
-    cut_sum c.args.d c.args.row.now c.args.ts.now 8 (7 * c.args.order + 1) c.requires.le_order.2 (sfits_of {w = w64} {z = c.narrow_sum.result} c.narrow_sum.type_inv) c.cut_at.ensures c.narrow_sum.ensures (omega arith)
+pub returns-in-1 : goal.returns-in-1
+returns-in-1 c =
+    cut_sum c.args.d c.args.row.now c.args.ts.now.tt 8 (7 * c.args.ts.now.order + 1) c.requires.d_bound (sfits_of {w = w64} {z = c.narrow_sum.result} c.narrow_sum.type_inv) c.cut_at.ensures c.narrow_sum.ensures (omega (arith, c.in-1.is))
 
-pub returns-then-order-eq2 : goal.returns-then-order-eq2
-returns-then-order-eq2 c =
-    cut_sum c.args.d c.args.row.now c.args.ts.now 15 (7 * c.args.order + 1) c.requires.le_order.2 (sfits_of {w = w64} {z = c.narrow_sum-then-order-eq2.result} c.narrow_sum-then-order-eq2.type_inv) c.cut_at-then-order-eq2.ensures c.narrow_sum-then-order-eq2.ensures (omega arith)
+pub returns-in-2 : goal.returns-in-2
+returns-in-2 c =
+    cut_sum c.args.d c.args.row.now c.args.ts.now.tt 15 (7 * c.args.ts.now.order + 1) c.requires.d_bound (sfits_of {w = w64} {z = c.narrow_sum-in-2.result} c.narrow_sum-in-2.type_inv) c.cut_at-in-2.ensures c.narrow_sum-in-2.ensures (omega (arith, c.in-2.is))
 
-pub returns : goal.returns
-returns c =
-    cut_sum c.args.d c.args.row.now c.args.ts.now 22 (7 * c.args.order + 1) c.requires.le_order.2 (sfits_of {w = w64} {z = c.narrow_sum-2.result} c.narrow_sum-2.type_inv) c.cut_at-2.ensures c.narrow_sum-2.ensures (omega arith)
+pub returns-in_default : goal.returns-in_default
+returns-in_default c =
+    let ts = c.args.ts.now in
+    let e : 22 ≡ 7 * ts.order + 1 = omega (arith, ts.some_order, ts.few_orders) in
+    cut_sum c.args.d c.args.row.now ts.tt 22 (7 * ts.order + 1) c.requires.d_bound (sfits_of {w = w64} {z = c.narrow_sum-in_default.result} c.narrow_sum-in_default.type_inv) c.cut_at-in_default.ensures c.narrow_sum-in_default.ensures e

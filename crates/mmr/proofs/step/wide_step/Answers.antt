@@ -1,6 +1,6 @@
 -- `mmr::step::wide_step` meets its contract: a floor that is cut is the sum cut. Assumes nothing.
 use borrow.Author.Rules.{sfits_of}
-use mathlib.Core.Path.{◌≡◌, ap, ◌∙◌}
+use mathlib.Core.Path.{◌≡◌, ap, ap₂, ◌∙◌}
 use mathlib.Core.List.{List}
 use Prim.Native.Nat.{ℕ, ◌+◌, ◌*◌, ◌^◌}
 use native.Mathlib.Omega.{arith}
@@ -18,17 +18,19 @@ use Rattle.mmr.proofs.Ring.{cut_floor}
 use Rattle.mmr.proofs.step.wide_step.Goals as goal
 
 -- from the floor's word to the cut of the sum
-cut_sum : (d : ℕ) {z : ℤ} (row : List ℤ) (ts : List ℕ) (k n : ℕ) {r : ℕ} → SFits w64 z → r ≡ cut_by 0 (to_z w64 (of_z w64 z)) → z ≡ shr_z (whole_sum (coef row) (at ts) k) (2 ^ d) → k ≡ n → r ≡ cut d (whole_sum (coef row) (at ts) n)
-cut_sum d {z} row ts k n f e s q = e ∙ is_cut 0 (omega arith) (to_z w64 (of_z w64 z)) ∙ ap (cut 0) (to_z-of_z f ∙ s) ∙ cut_floor (whole_sum (coef row) (at ts) k) d ∙ ap (λ (m : ℕ). cut d (whole_sum (coef row) (at ts) m)) q
+cut_sum : {b d : ℕ} → b ≡ d → {z : ℤ} (row : List ℤ) (ts : List ℕ) (k n : ℕ) {r : ℕ} → SFits w64 z → r ≡ cut_by 0 (to_z w64 (of_z w64 z)) → z ≡ shr_z (whole_sum (coef row) (at ts) k) (2 ^ b) → k ≡ n → r ≡ cut d (whole_sum (coef row) (at ts) n)
+cut_sum {b} {d} same {z} row ts k n f e s q = e ∙ is_cut 0 (omega arith) (to_z w64 (of_z w64 z)) ∙ ap (cut 0) (to_z-of_z f ∙ s) ∙ cut_floor (whole_sum (coef row) (at ts) k) b ∙ ap₂ (λ (c m : ℕ). cut c (whole_sum (coef row) (at ts) m)) same q
 
-pub returns-then-order-eq1 : goal.returns-then-order-eq1
-returns-then-order-eq1 c =
-    cut_sum c.args.d c.args.row.now c.args.ts.now 8 (7 * c.args.order + 1) (sfits_of {w = w64} {z = c.floor_sum.result} c.floor_sum.type_inv) c.cut_at.ensures c.floor_sum.ensures (omega arith)
+pub returns-in-1 : goal.returns-in-1
+returns-in-1 c =
+    cut_sum c.from-bits.ensures c.args.row.now c.args.ts.now.tt 8 (7 * c.args.ts.now.order + 1) (sfits_of {w = w64} {z = c.floor_sum.result} c.floor_sum.type_inv) c.cut_at.ensures c.floor_sum.ensures (omega (arith, c.in-1.is))
 
-pub returns-then-order-eq2 : goal.returns-then-order-eq2
-returns-then-order-eq2 c =
-    cut_sum c.args.d c.args.row.now c.args.ts.now 15 (7 * c.args.order + 1) (sfits_of {w = w64} {z = c.floor_sum-then-order-eq2.result} c.floor_sum-then-order-eq2.type_inv) c.cut_at-then-order-eq2.ensures c.floor_sum-then-order-eq2.ensures (omega arith)
+pub returns-in-2 : goal.returns-in-2
+returns-in-2 c =
+    cut_sum c.from-bits.ensures c.args.row.now c.args.ts.now.tt 15 (7 * c.args.ts.now.order + 1) (sfits_of {w = w64} {z = c.floor_sum-in-2.result} c.floor_sum-in-2.type_inv) c.cut_at-in-2.ensures c.floor_sum-in-2.ensures (omega (arith, c.in-2.is))
 
-pub returns : goal.returns
-returns c =
-    cut_sum c.args.d c.args.row.now c.args.ts.now 22 (7 * c.args.order + 1) (sfits_of {w = w64} {z = c.floor_sum-2.result} c.floor_sum-2.type_inv) c.cut_at-2.ensures c.floor_sum-2.ensures (omega arith)
+pub returns-in_default : goal.returns-in_default
+returns-in_default c =
+    let ts = c.args.ts.now in
+    let e : 22 ≡ 7 * ts.order + 1 = omega (arith, ts.some_order, ts.few_orders) in
+    cut_sum c.from-bits.ensures c.args.row.now ts.tt 22 (7 * ts.order + 1) (sfits_of {w = w64} {z = c.floor_sum-in_default.result} c.floor_sum-in_default.type_inv) c.cut_at-in_default.ensures c.floor_sum-in_default.ensures e

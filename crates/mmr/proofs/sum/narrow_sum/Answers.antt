@@ -17,15 +17,15 @@ use Rattle.mmr.proofs.sum.narrow_sum.Goals as goal
 w : (il : In-loop-i) → Holds (of_z w64 (coef il.args.row.now il.loop-i.i)) (coef il.args.row.now il.loop-i.i) narrow_most
 w il = bounded (il.requires.coefficient il.loop-i.i) tt
 
-t : (il : In-loop-i) → Holds (at il.args.ts.now il.loop-i.i) (pos (at il.args.ts.now il.loop-i.i)) (2 ^ 20)
-t il = number (il.requires.term il.loop-i.i) tt
+t : (il : In-loop-i) → Holds (at il.args.ts.now.tt il.loop-i.i) (pos (at il.args.ts.now.tt il.loop-i.i)) (2 ^ 20)
+t il = number (il.args.ts.now.low il.loop-i.i) tt
 
-so_far : (lp : At-loop-i) → Holds lp.loop-i.sum-bits (whole_sum (coef lp.args.row.now) (at lp.args.ts.now) lp.loop-i.i) (22 * (narrow_most * 2 ^ 20))
+so_far : (lp : At-loop-i) → Holds lp.loop-i.sum-bits (whole_sum (coef lp.args.row.now) (at lp.args.ts.now.tt) lp.loop-i.i) (22 * (narrow_most * 2 ^ 20))
 so_far lp =
-    let l : lp.loop-i.i ≤ 22 = omega (arith, lp.loop-i.invariant.0, lp.requires.few) in
+    let l : lp.loop-i.i ≤ 22 = omega (arith, lp.loop-i.auto.i-end, lp.requires.few) in
     record {
-      is = lp.loop-i.invariant.1;
-      le = le_trans (whole_sum_le (coef lp.args.row.now) (at lp.args.ts.now) narrow_most lp.requires.coefficient lp.requires.term lp.loop-i.i) (mul-le-mul_right (narrow_most * 2 ^ 20) l);
+      is = lp.loop-i.invariant;
+      le = le_trans (whole_sum_le (coef lp.args.row.now) (at lp.args.ts.now.tt) narrow_most lp.requires.coefficient lp.args.ts.now.low lp.loop-i.i) (mul-le-mul_right (narrow_most * 2 ^ 20) l);
     }
 
 pub overflow_mul-sum : goal.overflow_mul-sum
@@ -42,18 +42,18 @@ pub loop-i-preserved : goal.loop-i-preserved
 loop-i-preserved c =
     let il : In-loop-i = c.before.before.before.before in
     let a = c.args in
-    (omega arith, (add (so_far c.before.before.before.before.before) (mul (w il) (t il) tt) tt).is ∙ whole_more (coef a.row.now) (at a.ts.now) c.loop-i.i)
+    (add (so_far c.before.before.before.before.before) (mul (w il) (t il) tt) tt).is ∙ whole_more (coef a.row.now) (at a.ts.now.tt) c.loop-i.i
 
 pub returns : goal.returns
 returns c =
     let a = c.args in
     let e : c.loop-i.i ≡ a.count = omega arith in
-    c.loop-i.invariant.1 ∙ ap (whole_sum (coef a.row.now) (at a.ts.now)) e
+    c.loop-i.invariant ∙ ap (whole_sum (coef a.row.now) (at a.ts.now.tt)) e
 
 pub loop-i-init : goal.loop-i-init
 loop-i-init c =
-    (omega arith, whole_none (coef c.args.row.now) (at c.args.ts.now))
+    whole_none (coef c.args.row.now) (at c.args.ts.now.tt)
 
 pub overflow_cast-sum : goal.overflow_cast-sum
 overflow_cast-sum c =
-    record { sfits = omega (arith, c.requires.term c.loop-i.i) }
+    record { sfits = omega (arith, c.args.ts.now.low c.loop-i.i) }
