@@ -79,12 +79,12 @@ pub fn fill_table(plan: Plan, table: &mut [u16]) -> Filling
     if number != 0 {
         return Filling::Refused(number);
     }
-    let luma = mapped_table(plan.header, plan.y);
-    let blue = mapped_table(plan.header, plan.cb);
-    let red = mapped_table(plan.header, plan.cr);
+    let luma = mapped_table(plan.header, plan.y).unwrap_or([0; 1024]);
+    let blue = mapped_table(plan.header, plan.cb).unwrap_or([0; 1024]);
+    let red = mapped_table(plan.header, plan.cr).unwrap_or([0; 1024]);
     let codes = table.len() / 3;
-    fill_part(&luma.table, codes, 0, table);
-    fill_part(&blue.table, codes, codes, table);
-    fill_part(&red.table, codes, 2 * codes, table);
+    fill_part(&luma, codes, 0, table);
+    fill_part(&blue, codes, codes, table);
+    fill_part(&red, codes, 2 * codes, table);
     Filling::Filled
 }

@@ -8,7 +8,7 @@ use Rattle.runs.proofs.Painting.{length-painted}
 use Rattle.plan.specs.declared.Plan.{Plan}
 use Rattle.plan.specs.Ranges.{bl_depth}
 use Rattle.plan.proofs.Facts.{header_facts}
-use Rattle.mapping.specs.declared.Mapped.{Mapped}
+use Rattle.mapping.proofs.Meaning.{or_zeros}
 use Rattle.filling.specs.Filling.{filling_refusal}
 use Rattle.filling.proofs.Meaning.{Accepted, accepted, refused, parts_filled, finished}
 use Rattle.filling.proofs.fill_table.Goals as goal
@@ -42,9 +42,9 @@ fill_part-requires-3 c =
 
 pub returns : goal.returns
 returns c =
-    let table = λ (m : Mapped). m.table in
+    let h = c.args.plan.header in
     let r = finished c.args.plan c.args.table.now _ (sym c.if-number-ne0.false ∙ c.filling_number_of-number.ensures)
     (parts_filled c.args.plan c.args.table.now (granted c.args.plan c.args.table.now (sym c.if-number-ne0.false ∙ c.filling_number_of-number.ensures)) _ _ _ _ _ _ _ (codes c.args.plan c.args.table.now (sym c.if-number-ne0.false ∙ c.filling_number_of-number.ensures))
-    (ap table c.mapped_table-luma.ensures) (ap table c.mapped_table-blue.ensures) (ap table c.mapped_table-red.ensures)
+    ((rw c.mapped_table.ensures at c.unwrap_or-luma.ensures) ∙ or_zeros h c.args.plan.y) ((rw c.mapped_table-2.ensures at c.unwrap_or-blue.ensures) ∙ or_zeros h c.args.plan.cb) ((rw c.mapped_table-3.ensures at c.unwrap_or-red.ensures) ∙ or_zeros h c.args.plan.cr)
     c.fill_part.ensures c.fill_part-2.ensures c.fill_part-3.ensures) in
     record { answers = r.0; writes = r.1 }
