@@ -206,7 +206,7 @@ pub fn opened_number(opened: jobs::Opened) -> u8
     jobs::opened_number(opened)
 }
 
-pub fn mapped_table(h: plan::Header, c: plan::Component) -> mapping::Mapped
+pub fn mapped_table(h: plan::Header, c: plan::Component) -> Option<[u16; 1024]>
     ensures { mapped_table_keeps h c result }
 {
     mapping::mapped_table(h, c)
