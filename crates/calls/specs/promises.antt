@@ -80,3 +80,7 @@ pub mod table_rules_refusal_of
 pub mod length
 pub mod writer_number
 pub mod write
+pub mod method_of
+pub mod bl_depth
+pub mod el_depth
+pub mod hdr_depth
