@@ -67,12 +67,10 @@ module _ (h : Header) (c : Component) (polynomials : List Polynomial) (frame : f
   row_is : (p : ℕ) → p < piece_places → row_of polynomials p ≡ kept (get_or c.pieces p no_piece).row
   row_is p b = ap (λ (q : Polynomial). q.row) (read.each p b)
 
-  pub can_by_rows : Arrays c → ByRows (bl_depth h) h.d c.n c.preds polynomials
+  pub can_by_rows : Arrays c → ByRows (bl_depth h) c.n c.preds polynomials
   can_by_rows a =
       let f = frame_facts h c frame in
       record {
-        shallow = f.shallow;
-        denominator = f.denominator;
         count = f.count;
         pivot = anywhere (λ (v : ℕ). v < 2 ^ bl_depth h) c.preds 0 a.preds (pow_pos (bl_depth h)) f.pivot;
         coefficient = λ p i b. rw (row_is p (omega (arith, f.count))) (kept_le (get_or c.pieces p no_piece).row (pieces_facts c pieces p b).coefficient i);
