@@ -75,3 +75,7 @@ pub mod compose_table_job
 pub mod table_rules_refusal_of
 pub mod length
 pub mod write
+pub mod method_of
+pub mod bl_depth
+pub mod el_depth
+pub mod hdr_depth

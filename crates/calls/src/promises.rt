@@ -27,6 +27,10 @@ ghost use Rattle.calls.specs.promises.planes_of.{Keeps as planes_of_keeps};
 ghost use Rattle.calls.specs.promises.empty.{Keeps as empty_keeps};
 ghost use Rattle.calls.specs.promises.coefficients_used.{Keeps as coefficients_used_keeps};
 ghost use Rattle.calls.specs.promises.integer_limit.{Keeps as integer_limit_keeps};
+ghost use Rattle.calls.specs.promises.method_of.{Keeps as method_of_keeps};
+ghost use Rattle.calls.specs.promises.bl_depth.{Keeps as bl_depth_keeps};
+ghost use Rattle.calls.specs.promises.el_depth.{Keeps as el_depth_keeps};
+ghost use Rattle.calls.specs.promises.hdr_depth.{Keeps as hdr_depth_keeps};
 ghost use Rattle.calls.specs.promises.most_idc.{Keeps as most_idc_keeps};
 ghost use Rattle.calls.specs.promises.most_order.{Keeps as most_order_keeps};
 ghost use Rattle.calls.specs.promises.header_fits.{Keeps as header_fits_keeps};
@@ -187,7 +191,7 @@ pub fn open_picture(
     jobs::open_picture(plan, ticket, marks)
 }
 
-pub fn mapped_table(h: plan::Header, c: plan::Component) -> mapping::Mapped
+pub fn mapped_table(h: plan::Header, c: plan::Component) -> Option<[u16; 1024]>
     ensures { mapped_table_keeps h c result }
 {
     mapping::mapped_table(h, c)
@@ -294,6 +298,30 @@ pub fn integer_limit(idc: u8) -> u64
     ensures { integer_limit_keeps idc result }
 {
     plan::methods::integer_limit(idc)
+}
+
+pub fn method_of(idc: u8) -> Option<plan::methods::Method>
+    ensures { method_of_keeps idc result }
+{
+    plan::methods::Method::of(idc)
+}
+
+pub fn bl_depth(h: plan::ranges::FittingHeader) -> u32
+    ensures { bl_depth_keeps h result }
+{
+    h.bl_depth()
+}
+
+pub fn el_depth(h: plan::ranges::FittingHeader) -> u32
+    ensures { el_depth_keeps h result }
+{
+    h.el_depth()
+}
+
+pub fn hdr_depth(h: plan::ranges::FittingHeader) -> u32
+    ensures { hdr_depth_keeps h result }
+{
+    h.hdr_depth()
 }
 
 pub fn most_idc(k: usize) -> u8

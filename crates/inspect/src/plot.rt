@@ -144,8 +144,7 @@ fn table_of(k: usize, plan: Plan) -> [u16; 1024] {
     if k == LUMA {
         let h = plan.header;
         let y = plan.y;
-        let mapped = mapped_table(h, y);
-        return mapped.table;
+        return mapped_table(h, y).unwrap_or([0; 1024]);
     }
     slice_table(plan, k == CR)
 }

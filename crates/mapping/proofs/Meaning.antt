@@ -1,19 +1,20 @@
 -- What stands in the table of mapped samples, and that summed pivots and rows of three give it. Assumes nothing.
 use mathlib.Core.Path.{◌≡◌, refl, sym, ap, ap₂, ◌∙◌}
-use mathlib.Core.Bool.{Bool, true, false, ◌&&◌}
+use mathlib.Core.Bool.{Bool, true, false, ◌&&◌, cond}
 use mathlib.Core.List.{List}
 use Prim.Native.Nat.{ℕ, zero, suc, ◌+◌, ◌%◌, ◌<◌, ◌≤◌, ◌^◌}
 use native.Mathlib.Nat.{lt_of_lt_of_le, mod-eq_of_lt}
 use native.Mathlib.Omega.{arith}
 use lib.IntN.{ℤ, nat_abs}
-use lib.ListN.{length, get_or, take}
+use lib.ListN.{length, get_or, take, replicate}
 use Rattle.std.specs.Prelude.{Some, None}
+use Rattle.std.specs.Option.{unwrap_or}
 use Rattle.std.proofs.lemmas.List.{get_or-take, length-take}
 use lib.Pow.{pow_pos, pow_mono}
 use lib.Seq.{ext_get_or}
 use Rattle.runs.specs.inner.Loops.{at}
 use Rattle.runs.specs.inner.Tables.{table, coded}
-use Rattle.runs.proofs.Tables.{length-table, at_table, coded_in}
+use Rattle.runs.proofs.Tables.{length-table, at_table, coded_in, no_codes}
 use Rattle.standard.specs.Parameters.{Mapping}
 use Rattle.standard.specs.Mapping.{pivot_value, pivot_idx, clamped, mapped, polynomial, poly_sum, cut}
 use Rattle.standard.proofs.Pieces.{idx_cong, idx_le}
@@ -66,12 +67,10 @@ module _ (h : Header) (c : Component) (polynomials : List Polynomial) (frame : f
   row_is : (p : ℕ) → p < piece_places → row_of polynomials p ≡ kept (get_or c.pieces p no_piece).row
   row_is p b = ap (λ (q : Polynomial). q.row) (read.each p b)
 
-  pub can_by_rows : Arrays c → ByRows (bl_depth h) h.d c.n c.preds polynomials
+  pub can_by_rows : Arrays c → ByRows (bl_depth h) c.n c.preds polynomials
   can_by_rows a =
       let f = frame_facts h c frame in
       record {
-        shallow = f.shallow;
-        denominator = f.denominator;
         count = f.count;
         pivot = anywhere (λ (v : ℕ). v < 2 ^ bl_depth h) c.preds 0 a.preds (pow_pos (bl_depth h)) f.pivot;
         coefficient = λ p i b. rw (row_is p (omega (arith, f.count))) (kept_le (get_or c.pieces p no_piece).row (pieces_facts c pieces p b).coefficient i);
@@ -111,6 +110,29 @@ module _ (h : Header) (c : Component) where
       neither : (a : Bool) {b : Bool} → b ≡ false → (a && b) ≡ false
       neither true e = e
       neither false e = refl
+
+-- for whoever is handed the table, or takes zeros where there is none
+pub is_mapped : (h : Header) (c : Component) {entries : List ℕ} → answer h c ≡ Some entries → (can_map h c ≡ true) × (entries ≡ mapped_table h c)
+is_mapped h c e = go (can_map h c) refl e
+  where
+    go : {entries : List ℕ} (u : Bool) → can_map h c ≡ u → cond u (Some (mapped_table h c)) None ≡ Some entries → (can_map h c ≡ true) × (entries ≡ mapped_table h c)
+    go true t e = (t, cc)
+    go false t e = absurd (cc)
+
+pub is_unmapped : (h : Header) (c : Component) → answer h c ≡ None → can_map h c ≡ false
+is_unmapped h c e = go (can_map h c) refl e
+  where
+    go : (u : Bool) → can_map h c ≡ u → cond u (Some (mapped_table h c)) None ≡ None → can_map h c ≡ false
+    go true t e = absurd (cc)
+    go false t e = t
+
+pub or_zeros : (h : Header) (c : Component) → unwrap_or (answer h c) (replicate 1024 0) ≡ mapped_table h c
+unfolding mapped_table
+or_zeros h c = go (can_map h c) refl
+  where
+    go : (u : Bool) → can_map h c ≡ u → unwrap_or (cond u (Some (mapped_table h c)) None) (replicate 1024 0) ≡ mapped_table h c
+    go true t = refl
+    go false t = no_codes 1024 _ _ t
 
 -- for whoever looks a sample up
 pub mapped-found : (h : Header) (c : Component) → can_map h c ≡ true → (s : ℕ) → s < 2 ^ bl_depth h → at (mapped_table h c) (s % 1024) ≡ mapped (bl_depth h) h.d (mapping c) s

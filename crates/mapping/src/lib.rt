@@ -12,6 +12,7 @@ ghost use Rattle.mapping.specs.inner.Mapped.{answer};
 use copies::polynomials_of;
 use limits::{frame_maps, pieces_map};
 use plan::{Component, Header};
+use polynomial::Scale;
 use table::table_by;
 
 // The mapped sample of each code, where there is one: a component with an MMR piece, or one that cannot be computed with,
@@ -28,6 +29,10 @@ pub fn mapped_table(h: Header, c: Component) -> Option<[u16; 1024]>
     if !pieces_map(&polynomials[..n + 2]) {
         return None;
     }
-    let table = table_by(u32::from(h.bl) + 8, h.d, n, c.preds, &polynomials);
+    let scale = Scale {
+        depth: u32::from(h.bl) + 8,
+        d: h.d,
+    };
+    let table = table_by(scale, n, c.preds, &polynomials);
     Some(table)
 }

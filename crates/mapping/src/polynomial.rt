@@ -6,6 +6,15 @@ ghost use Rattle.mapping.specs.inner.Steps.{growth, bend, RowRanges};
 
 use steps::cut_at;
 
+// What a component is mapped with: BL_bit_depth and coefficient_log2_denom.
+#[derive(Clone, Copy)]
+pub(crate) struct Scale {
+    pub(crate) depth: u32,
+    pub(crate) d: u8,
+    ghost shallow: { depth ≤ 10 },
+    ghost denominator: { d ≤ 32 },
+}
+
 // A number times a power of two.
 fn shifted(x: u64, shift: u32) -> i64
     requires { (shift ≤ 20) × (x * 2 ^ shift ≤ 2 ^ 22) }
@@ -48,10 +57,9 @@ pub(crate) fn course_from(depth: u32, s: u16, row: [i64; 3]) -> Course
 }
 
 // The mapping step: a clamped sample, and the row of its piece by value.
-pub(crate) fn map_step(depth: u32, d: u8, s: u16, row: [i64; 3]) -> u16
-    requires d_bound { d ≤ 32 }
-    requires row_ranges { RowRanges depth s row }
-    ensures { result ≡ cut d (poly_sum depth s (coef row) 2) }
+pub(crate) fn map_step(scale: Scale, s: u16, row: [i64; 3]) -> u16
+    requires { RowRanges scale.depth s row }
+    ensures { result ≡ cut scale.d (poly_sum scale.depth s (coef row) 2) }
 {
-    cut_at(d, sum_of(depth, s, row))
+    cut_at(scale.d, sum_of(scale.depth, s, row))
 }

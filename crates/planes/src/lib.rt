@@ -108,19 +108,19 @@ pub fn plain_planes(plan: Plan, r: Rows, marks: &[u8], base: &[u16], output: &mu
     let h = plan.header;
     let p = extent_of(h).planes();
     let y = plan.y;
-    let luma = mapped_table(h, y);
+    let luma = mapped_table(h, y).unwrap_or([0; 1024]);
     let cb = plan.cb;
     let blue = mapped_table(h, cb);
     let cr = plan.cr;
     let red = mapped_table(h, cr);
-    if blue.maps & red.maps {
-        plain_plane(h, &luma.table, p.y, r, marks, base, output);
-        plain_plane(h, &blue.table, p.cb, r, marks, base, output);
-        plain_plane(h, &red.table, p.cr, r, marks, base, output);
+    if let (Some(blue), Some(red)) = (&blue, &red) {
+        plain_plane(h, &luma, p.y, r, marks, base, output);
+        plain_plane(h, blue, p.cb, r, marks, base, output);
+        plain_plane(h, red, p.cr, r, marks, base, output);
         return;
     }
     plain_chroma(plan, r, marks, base, output);
-    plain_plane(h, &luma.table, p.y, r, marks, base, output);
+    plain_plane(h, &luma, p.y, r, marks, base, output);
 }
 
 // With residual. The numbers of the cut serve three planes.
@@ -131,57 +131,17 @@ pub fn enhanced_planes(plan: Plan, r: Rows, base: &[u16], enhancement: &[u16], o
     let p = extent_of(h).planes();
     let cut = cut_numbers(h);
     let y = plan.y;
-    let luma = mapped_table(h, y);
+    let luma = mapped_table(h, y).unwrap_or([0; 1024]);
     let cb = plan.cb;
     let blue = mapped_table(h, cb);
     let cr = plan.cr;
     let red = mapped_table(h, cr);
-    if blue.maps & red.maps {
-        enhanced_plane(
-            h,
-            &luma.table,
-            y.nlq,
-            cut,
-            p.y,
-            r,
-            base,
-            enhancement,
-            output,
-        );
-        enhanced_plane(
-            h,
-            &blue.table,
-            cb.nlq,
-            cut,
-            p.cb,
-            r,
-            base,
-            enhancement,
-            output,
-        );
-        enhanced_plane(
-            h,
-            &red.table,
-            cr.nlq,
-            cut,
-            p.cr,
-            r,
-            base,
-            enhancement,
-            output,
-        );
+    if let (Some(blue), Some(red)) = (&blue, &red) {
+        enhanced_plane(h, &luma, y.nlq, cut, p.y, r, base, enhancement, output);
+        enhanced_plane(h, blue, cb.nlq, cut, p.cb, r, base, enhancement, output);
+        enhanced_plane(h, red, cr.nlq, cut, p.cr, r, base, enhancement, output);
         return;
     }
     enhanced_chroma(plan, cut, r, base, enhancement, output);
-    enhanced_plane(
-        h,
-        &luma.table,
-        y.nlq,
-        cut,
-        p.y,
-        r,
-        base,
-        enhancement,
-        output,
-    );
+    enhanced_plane(h, &luma, y.nlq, cut, p.y, r, base, enhancement, output);
 }

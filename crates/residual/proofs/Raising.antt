@@ -104,14 +104,14 @@ module _ (out : ℕ) (h : out ≤ 12) where
   past : (k : ℕ) → 2 ^ 16 ≤ k → 2 ^ out ≤ k / 2 ^ (16 - out)
   past k b = (le-div_iff_mul-le (pow_pos (16 - out))).1 (rw (mul_comm, bias) b)
 
-  pub plain : (v : ℕ) → (min v (65535 - 2 ^ (15 - out)) + 2 ^ (15 - out)) / 2 ^ (16 - out) ≡ reconstructed out v (pos 0)
+  pub plain : (v : ℕ) → min (v + 2 ^ (15 - out)) 65535 / 2 ^ (16 - out) ≡ reconstructed out v (pos 0)
   unfolding reconstructed
   plain v = rw add-zero (go (pow_mono {i = 15 - out} {j = 15} (omega arith)) (lt_or_ge (65535 - 2 ^ (15 - out)) v))
     where
-      go : {half : ℕ} → half ≤ 2 ^ 15 → (65535 - half < v) ⊎ (v ≤ 65535 - half) → (min v (65535 - half) + half) / 2 ^ (16 - out) ≡ min ((v + half) / 2 ^ (16 - out)) (2 ^ out - 1)
+      go : {half : ℕ} → half ≤ 2 ^ 15 → (65535 - half < v) ⊎ (v ≤ 65535 - half) → min (v + half) 65535 / 2 ^ (16 - out) ≡ min ((v + half) / 2 ^ (16 - out)) (2 ^ out - 1)
       go {half} s (inl p) =
-          let e : min v (65535 - half) + half ≡ 65535 = omega arith in
+          let e : min (v + half) 65535 ≡ 65535 = omega arith in
           rw e (omega (arith, edge, inside 65535 (omega arith), past (v + half) (omega arith)))
       go {half} s (inr p) =
-          let e : min v (65535 - half) ≡ v = omega arith in
+          let e : min (v + half) 65535 ≡ v + half = omega arith in
           rw e (omega (arith, inside (v + half) (omega arith)))

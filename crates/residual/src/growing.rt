@@ -6,6 +6,7 @@ ghost use Rattle.standard.specs.Mapping.{from_zero};
 ghost use Rattle.standard.specs.Residual.{limit};
 ghost use Rattle.residual.specs.inner.Steps.{growth, far_of, OneSide, CodeGiven, raised_by, raised_code};
 
+use crate::depths::Depths;
 use crate::rounding::power;
 use crate::scaling::{distance, scale};
 use plan::Nlq;
@@ -51,25 +52,17 @@ fn raised_by(out: u32, shift: u32, most: u64, dq: i64) -> u32
 }
 
 // The codes from `from` up to, but not including, `to`, on the side of the offset that `sign` says.
-pub(crate) fn go_on(
-    table: &mut [u32; 1024],
-    from: u16,
-    to: u16,
-    el: u32,
-    d: u32,
-    out: u32,
-    q: Nlq,
-    sign: i64,
-)
-    requires { OneSide el d out from to q sign × (length table.old ≡ 1024) }
-    ensures { table.new ≡ painted (between from to) (raised_code out el d q) table.old }
+pub(crate) fn go_on(table: &mut [u32; 1024], from: u16, to: u16, depths: Depths, q: Nlq, sign: i64)
+    requires { OneSide depths from to q sign × (length table.old ≡ 1024) }
+    ensures { table.new ≡ painted (between from to) (raised_code depths.out depths.el depths.d q) table.old }
 {
-    let shift = d - 5 - el;
+    let el = depths.el;
+    let shift = depths.d - 5 - el;
     let most = most_of(el, q.maximum);
     let even = growth(el, q.slope);
     let mut dq = scale(el, q.slope, q.threshold, distance(from, q.offset), sign);
     for e in from..to {
-        table[e as usize] = raised_by(out, shift, most, dq);
+        table[e as usize] = raised_by(depths.out, shift, most, dq);
         dq += even;
     }
 }

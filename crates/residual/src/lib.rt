@@ -2,6 +2,7 @@
 // Each is zeros where the header or the quantization cannot be computed with.
 #![tactic(auto)]
 
+mod depths; // what residuals are computed with
 mod growing; // the residuals of the codes on one side of the offset
 mod rounding; // the reconstruction of one HDR sample
 mod scaling; // the scaled distance of a code from the offset
@@ -14,6 +15,7 @@ ghost use Rattle.plan.specs.Rule7.{nlq_fits};
 ghost use Rattle.residual.specs.inner.Steps.{raised_code};
 ghost use Rattle.residual.specs.inner.Tables.{residual_table, residual_pair, no_residual, finished_table, cut_numbers};
 
+use depths::Depths;
 use growing::go_on;
 use plan::ranges::FittingHeader;
 use plan::{Header, Nlq};
@@ -30,14 +32,16 @@ fn fill_residuals(table: &mut [u32; 1024], h: Header, q: Nlq)
     if !quantizes(h, q) {
         return;
     }
-    let el = (h.el as u32) + 8;
-    let d = h.d as u32;
-    let out = (h.hdr as u32) + 8;
-    let codes = power(el) as u16;
+    let depths = Depths {
+        el: (h.el as u32) + 8,
+        d: h.d as u32,
+        out: (h.hdr as u32) + 8,
+    };
+    let codes = power(depths.el) as u16;
     let o = q.offset;
-    go_on(table, 0, o, el, d, out, q, -1);
-    table[o as usize] = raise(out, 0);
-    go_on(table, o + 1, codes, el, d, out, q, 1);
+    go_on(table, 0, o, depths, q, -1);
+    table[o as usize] = raise(depths.out, 0);
+    go_on(table, o + 1, codes, depths, q, 1);
 }
 
 pub fn residual_table(h: Header, q: Nlq) -> [u32; 1024]

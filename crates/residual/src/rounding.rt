@@ -20,6 +20,7 @@ pub(crate) fn raise(out: u32, r: i64) -> u32
 
 // The HDR sample of a mapped sample without residual. The sum is cut at 16 bits, which it has throughout, so that a loop
 // finishes eight at once.
+#[tactic(auto, using(crate::proofs::Raising::plain))]
 pub(crate) fn finish(out: u32, v: u16) -> u16
     requires { (1 ≤ out) × (out ≤ 12) }
     ensures { result ≡ reconstructed out v (pos 0) }

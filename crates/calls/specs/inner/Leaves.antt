@@ -29,6 +29,10 @@ use Rattle.calls.specs.promises.finished_table as finished_table_promise
 use Rattle.calls.specs.promises.cut_numbers as cut_numbers_promise
 use Rattle.calls.specs.promises.is_usable as is_usable_promise
 use Rattle.calls.specs.promises.header_fits as header_fits_promise
+use Rattle.calls.specs.promises.method_of as method_of_promise
+use Rattle.calls.specs.promises.bl_depth as bl_depth_promise
+use Rattle.calls.specs.promises.el_depth as el_depth_promise
+use Rattle.calls.specs.promises.hdr_depth as hdr_depth_promise
 use Rattle.calls.specs.promises.most_idc as most_idc_promise
 use Rattle.calls.specs.promises.most_order as most_order_promise
 use Rattle.calls.specs.promises.coefficients_used as coefficients_used_promise
@@ -98,6 +102,10 @@ pub record LeavesSettled : Type 0 where
   pub cut_numbers : OneAnswer cut_numbers_promise.Post
   pub is_usable : OneAnswer is_usable_promise.Post
   pub header_fits : OneAnswer header_fits_promise.Post
+  pub method_of : OneAnswer method_of_promise.Post
+  pub bl_depth : OneAnswer bl_depth_promise.Post
+  pub el_depth : OneAnswer el_depth_promise.Post
+  pub hdr_depth : OneAnswer hdr_depth_promise.Post
   pub most_idc : OneAnswer most_idc_promise.Post
   pub most_order : OneAnswer most_order_promise.Post
   pub coefficients_used : OneAnswer coefficients_used_promise.Post

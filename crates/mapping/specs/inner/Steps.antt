@@ -26,17 +26,13 @@ pub record RowRanges (depth s : ℕ) (row : List ℤ) : Type 0 where
   pub coefficient : (i : ℕ) → nat_abs (coef row i) ≤ 2 ^ 38
 
 -- codes that go by one row
-pub record StretchGiven (depth d from to : ℕ) (row : List ℤ) : Type 0 where
-  pub shallow : depth ≤ 10
-  pub denominator : d ≤ 32
+pub record StretchGiven (depth from to : ℕ) (row : List ℤ) : Type 0 where
   pub ordered : from ≤ to
   pub codes : to ≤ 2 ^ depth
   pub coefficient : (i : ℕ) → nat_abs (coef row i) ≤ 2 ^ 38
 
 -- the predictions of pivots and the rows of the pieces that are used, in the same bounds
-pub record ByRows (depth d n : ℕ) (preds : List ℕ) (polynomials : List Polynomial) : Type 0 where
-  pub shallow : depth ≤ 10
-  pub denominator : d ≤ 32
+pub record ByRows (depth n : ℕ) (preds : List ℕ) (polynomials : List Polynomial) : Type 0 where
   pub count : n ≤ most_n
   pub pivot : (i : ℕ) → at preds i < 2 ^ depth
   pub coefficient : (p i : ℕ) → p < pieces_used n → nat_abs (coef (row_of polynomials p) i) ≤ 2 ^ 38

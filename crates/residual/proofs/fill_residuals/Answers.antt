@@ -34,12 +34,9 @@ module _ (h : Header) (q : Nlq) (t : (header_fits h && nlq_fits h q) ≡ true) w
   shallow : (h.el + 8 ≤ 10) × (h.hdr + 8 ≤ 12)
   shallow = (omega (arith, header.base_depth, header.same_depth), omega (arith, header.out_depth))
 
-  ranges : NlqRanges (h.el + 8) h.d q
+  ranges : NlqRanges h.d q
   ranges =
       record {
-        shallow = shallow.0;
-        fraction = header.shallow;
-        deep = header.deep;
         maximum = numbers.maximum;
         slope = numbers.slope;
         threshold = numbers.threshold;
@@ -62,6 +59,12 @@ module _ (h : Header) (q : Nlq) (t : (header_fits h && nlq_fits h q) ≡ true) w
 pub returns-then-not-quantizes : goal.returns-then-not-quantizes
 returns-then-not-quantizes c = rw (sym c.quantizes.ensures ∙ c.if-not-quantizes.true)
 
+pub invariant_of-depths : goal.invariant_of-depths
+invariant_of-depths c =
+    let t = sym c.quantizes.ensures ∙ c.if-not-quantizes.false in
+    let g = header _ _ t in
+    record { shallow = (shallow _ _ t).0; fraction = g.shallow; deep = g.deep; out_depth = (shallow _ _ t).1 }
+
 pub power-codes-requires : goal.power-codes-requires
 power-codes-requires c =
     let s = shallow _ _ (sym c.quantizes.ensures ∙ c.if-not-quantizes.false) in
@@ -78,7 +81,6 @@ go_on-requires c =
     let f = few _ _ t _ c.power-codes.ensures in (
       record {
         ranges = ranges _ _ t;
-        out_depth = (shallow _ _ t).1;
         ordered = zero-le;
         codes = omega arith;
         offset = omega arith;
@@ -112,7 +114,6 @@ go_on-requires-2 c =
     let f = few _ _ t _ c.power-codes.ensures in (
       record {
         ranges = ranges _ _ t;
-        out_depth = (shallow _ _ t).1;
         ordered = omega arith;
         codes = omega arith;
         offset = omega arith;

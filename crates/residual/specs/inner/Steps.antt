@@ -4,13 +4,11 @@ use Rattle.std.specs.Int.Signed.{shr_z}
 use Rattle.standard.specs.Residual.{sign_of, limited, residual}
 use Rattle.plan.specs.declared.Nlq.{Nlq}
 use Rattle.plan.specs.Parameters.{quantization}
+use Rattle.residual.specs.declared.depths.Depths.{Depths}
 use Rattle.residual.specs.inner.Raising.{raised}
 
--- slack bounds, the same for every depth and every d
-pub record NlqRanges (el d : ℕ) (q : Nlq) : Type 0 where
-  pub shallow : el ≤ 10
-  pub fraction : d ≤ 32
-  pub deep : el + 5 ≤ d
+-- slack bounds, the same for every depth
+pub record NlqRanges (d : ℕ) (q : Nlq) : Type 0 where
   pub maximum : q.maximum ≤ 2 ^ (d + 1)
   pub slope : q.slope ≤ 2 ^ (d + 1)
   pub threshold : q.threshold ≤ 2 ^ (d + 1)
@@ -46,9 +44,8 @@ pub record Beside (rr sign : ℤ) : Type 0 where
   pub is : sign ≡ sign_of rr
 
 -- codes on one side of the offset
-pub record OneSide (el d out from to : ℕ) (q : Nlq) (sign : ℤ) : Type 0 where
-  pub ranges : NlqRanges el d q
-  pub out_depth : out ≤ 12
+pub record OneSide (depths : Depths) (from to : ℕ) (q : Nlq) (sign : ℤ) : Type 0 where
+  pub ranges : NlqRanges depths.d q
   pub ordered : from ≤ to
   pub codes : to ≤ 1024
   pub offset : q.offset ≤ 1024

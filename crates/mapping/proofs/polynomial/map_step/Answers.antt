@@ -13,5 +13,5 @@ pub returns : goal.returns
 returns c =
     let a = c.args in
     c.cut_at.ensures
-    ∙ ap (cut_by a.d) (to_z-of_z (sfits_of {w = w64} {z = c.sum_of.result} c.sum_of.type_inv) ∙ c.sum_of.ensures)
-    ∙ is_cut a.d c.requires.d_bound (poly_sum a.depth a.s (coef a.row) 2)
+    ∙ ap (cut_by a.scale.d) (to_z-of_z (sfits_of {w = w64} {z = c.sum_of.result} c.sum_of.type_inv) ∙ c.sum_of.ensures)
+    ∙ is_cut a.scale.d a.scale.denominator (poly_sum a.scale.depth a.s (coef a.row) 2)

@@ -31,24 +31,24 @@ abbrev before : After-loop-p → After-pivots_of-pivots
 before c = search rules
 
 -- there are 2 ^ depth codes, and no more than places
-all : (s : Start) → (1 * 2 ^ s.args.depth) % 18446744073709551616 ≡ 2 ^ s.args.depth
-all s = one_shifted s.args.depth (omega arith)
+all : (s : Start) → (1 * 2 ^ s.args.scale.depth) % 18446744073709551616 ≡ 2 ^ s.args.scale.depth
+all s = one_shifted s.args.scale.depth (omega arith)
 
-few : (s : Start) → 2 ^ s.args.depth ≤ 1024
-few s = pow_mono {j = 10} s.requires.shallow
+few : (s : Start) → 2 ^ s.args.scale.depth ≤ 1024
+few s = pow_mono {j = 10} s.args.scale.shallow
 
 -- the pivots are sums: predictions are small
 made : (v : After-pivots_of-pivots) → v.pivots_of-pivots.result ≡ pivots_by v.args.preds
 made v = let s = start v in v.pivots_of-pivots.ensures ∙ pivots_small v.args.preds (λ i. lt_of_lt_of_le (v.requires.pivot i) (few s))
 
 -- the first pivot is a code
-low : (v : After-pivots_of-pivots) → at v.pivots_of-pivots.result 0 < 2 ^ v.args.depth
+low : (v : After-pivots_of-pivots) → at v.pivots_of-pivots.result 0 < 2 ^ v.args.scale.depth
 low v = omega (arith, lowest v.args.preds (made v), v.requires.pivot 0)
 
 -- what the mapping step asks, of the row of any piece that is used
-ranges : (v : After-pivots_of-pivots) (s p : ℕ) → let a = v.args in p < pieces_used a.n → s ≤ 2 ^ a.depth → (a.d ≤ 32) × RowRanges a.depth s (row_of a.polynomials.now p)
+ranges : (v : After-pivots_of-pivots) (s p : ℕ) → let a = v.args in p < pieces_used a.n → s ≤ 2 ^ a.scale.depth → RowRanges a.scale.depth s (row_of a.polynomials.now p)
 ranges v s p k b =
-    (v.requires.denominator, record { shallow = v.requires.shallow; sample = b; coefficient = λ i. v.requires.coefficient p i k })
+    record { shallow = v.args.scale.shallow; sample = b; coefficient = λ i. v.requires.coefficient p i k }
 
 pub loop-p-init : goal.loop-p-init
 loop-p-init c =
@@ -56,11 +56,11 @@ loop-p-init c =
     let a = c.args in (
       omega (arith, low v, all (start v)),
       fill_painted _ (fill_none 1024 _ 0 (λ j h. absurd (omega arith))) (omega arith) (omega (arith, low v, few (start v))) c.hold.ensures
-          (λ j x y. c.map_step.ensures ∙ below_first a.preds (made v) a.depth a.d a.n a.polynomials.now c.requires.count j y),
+          (λ j x y. c.map_step.ensures ∙ below_first a.preds (made v) a.scale.depth a.scale.d a.n a.polynomials.now c.requires.count j y),
     )
 
 -- a piece goes from where the one before it ended to its next pivot, or to the codes' end
-ends : (e : After-clamp-end) → let il = inside e in let v = turn il in (e.loop-p.s ≤ e.clamp-end.result) × (e.clamp-end.result ≤ 2 ^ e.args.depth)
+ends : (e : After-clamp-end) → let il = inside e in let v = turn il in (e.loop-p.s ≤ e.clamp-end.result) × (e.clamp-end.result ≤ 2 ^ e.args.scale.depth)
 ends e =
     let il = inside e in
     let v = turn il in
@@ -74,8 +74,6 @@ go_on-requires c =
     let e : After-clamp-end = search rules in
     let g = c.requires in (
       record {
-        shallow = g.shallow;
-        denominator = g.denominator;
         ordered = (ends e).0;
         codes = (ends e).1;
         coefficient = λ i. g.coefficient c.loop-p.p i (omega (arith, c.loop-p-test));
@@ -93,23 +91,23 @@ loop-p-preserved c =
     let l = c.loop-p in (
       omega (arith, c.clamp-end.ensures),
       fill_painted _ l.invariant.1 (ends e).0 (omega (arith, (ends e).1, few st)) c.go_on.ensures
-          (λ j x y. in_piece a.preds (made v) a.depth a.d a.n a.polynomials.now c.requires.count l.p j (omega (arith, c.loop-p-test)) (omega (arith, l.invariant.0, c.clamp-end.ensures)) (omega (arith, c.clamp-end.ensures))),
+          (λ j x y. in_piece a.preds (made v) a.scale.depth a.scale.d a.n a.polynomials.now c.requires.count l.p j (omega (arith, c.loop-p-test)) (omega (arith, l.invariant.0, c.clamp-end.ensures)) (omega (arith, c.clamp-end.ensures))),
     )
 
 -- all pieces have their codes, up to the last pivot or all there are
-reached : (c : After-loop-p) → let v = before c in c.loop-p.s ≡ min (at c.pivots_of-pivots.result (c.args.n + 1)) (2 ^ c.args.depth)
+reached : (c : After-loop-p) → let v = before c in c.loop-p.s ≡ min (at c.pivots_of-pivots.result (c.args.n + 1)) (2 ^ c.args.scale.depth)
 reached c =
     let v = before c in
     let l = c.loop-p in
     let e : l.p ≡ c.args.n + 1 = omega (arith, c.loop-p-test) in
-    let same : l.s ≡ min (at c.pivots_of-pivots.result l.p) (2 ^ c.args.depth) = omega (arith, l.invariant.0, all (start v)) in
-    same ∙ ap (λ (p : ℕ). min (at c.pivots_of-pivots.result p) (2 ^ c.args.depth)) e
+    let same : l.s ≡ min (at c.pivots_of-pivots.result l.p) (2 ^ c.args.scale.depth) = omega (arith, l.invariant.0, all (start v)) in
+    same ∙ ap (λ (p : ℕ). min (at c.pivots_of-pivots.result p) (2 ^ c.args.scale.depth)) e
 
 -- the table, filled as far as there are codes
-filled : (v : After-pivots_of-pivots) {i : ℕ} {table : List ℕ} → let a = v.args in i ≡ 2 ^ a.depth → Filled 1024 (mapped_by a.depth a.d a.n v.pivots_of-pivots.result a.polynomials.now) i table → table ≡ table_by a.depth a.d a.n a.preds a.polynomials.now
+filled : (v : After-pivots_of-pivots) {i : ℕ} {table : List ℕ} → let a = v.args in i ≡ 2 ^ a.scale.depth → Filled 1024 (mapped_by a.scale.depth a.scale.d a.n v.pivots_of-pivots.result a.polynomials.now) i table → table ≡ table_by a.scale.depth a.scale.d a.n a.preds a.polynomials.now
 filled v e h =
     let a = v.args in
-    fill_codes _ refl e h (λ j. ap (λ (l : List ℕ). mapped_by a.depth a.d a.n l a.polynomials.now j) (made v))
+    fill_codes _ refl e h (λ j. ap (λ (l : List ℕ). mapped_by a.scale.depth a.scale.d a.n l a.polynomials.now j) (made v))
 
 abbrev passed : Then-s-codes → After-loop-p
 passed t = search rules
@@ -127,8 +125,8 @@ returns-then-s-codes c =
     let l = c.loop-p in
     filled v (all st)
     (fill_painted _ l.invariant.1 (omega (arith, c.if-s-codes.true)) (omega (arith, all st, few st)) c.hold-then-s-codes.ensures
-    (λ j x y. c.map_step-then-s-codes.ensures ∙ ap (by_row a.depth a.d (row_of a.polynomials.now (a.n + 1))) (last_is t)
-    ∙ from_last a.preds (made v) a.depth a.d a.n a.polynomials.now v.requires.count j (omega (arith, last_is t))))
+    (λ j x y. c.map_step-then-s-codes.ensures ∙ ap (by_row a.scale.depth a.scale.d (row_of a.polynomials.now (a.n + 1))) (last_is t)
+    ∙ from_last a.preds (made v) a.scale.depth a.scale.d a.n a.polynomials.now v.requires.count j (omega (arith, last_is t))))
 
 pub returns-else-s-codes : goal.returns-else-s-codes
 returns-else-s-codes c =
@@ -138,7 +136,7 @@ returns-else-s-codes c =
 
 pub overflow_shl-codes : goal.overflow_shl-codes
 overflow_shl-codes c =
-    omega (arith, c.requires.shallow)
+    omega (arith, c.args.scale.shallow)
 
 pub overflow_cast-codes-2 : goal.overflow_cast-codes-2
 overflow_cast-codes-2 c =
@@ -147,7 +145,7 @@ overflow_cast-codes-2 c =
 
 pub map_step-requires : goal.map_step-requires
 map_step-requires c =
-    let v : After-pivots_of-pivots = search rules in let r = ranges v _ 0 (omega arith) (omega (arith, low v)) in record { d_bound = r.0; row_ranges = r.1 }
+    let v : After-pivots_of-pivots = search rules in ranges v _ 0 (omega arith) (omega (arith, low v))
 
 pub hold-requires : goal.hold-requires
 hold-requires c =
@@ -156,7 +154,7 @@ hold-requires c =
 
 pub map_step-requires-then-s-codes : goal.map_step-requires-then-s-codes
 map_step-requires-then-s-codes c =
-    let t : Then-s-codes = search rules in let r = ranges (before (passed t)) _ _ (omega arith) (omega (arith, c.if-s-codes.true, all (start (before (passed t))))) in record { d_bound = r.0; row_ranges = r.1 }
+    let t : Then-s-codes = search rules in ranges (before (passed t)) _ _ (omega arith) (omega (arith, c.if-s-codes.true, all (start (before (passed t)))))
 
 pub hold-requires-then-s-codes : goal.hold-requires-then-s-codes
 hold-requires-then-s-codes c =

@@ -7,4 +7,4 @@ use Rattle.mapping.specs.inner.Steps.{mapped_by}
 use Rattle.mapping.proofs.table.table_by.Given as goal
 
 abbrev pub invariant-loop-p : goal.invariant-loop-p
-invariant-loop-p l = (l.s ≡ min (at l.pivots l.p) l.codes) × Filled 1024 (mapped_by l.depth l.d l.n l.pivots l.polynomials) l.s l.table
+invariant-loop-p l = (l.s ≡ min (at l.pivots l.p) l.codes) × Filled 1024 (mapped_by l.scale.depth l.scale.d l.n l.pivots l.polynomials) l.s l.table

@@ -7,4 +7,4 @@ use Rattle.residual.proofs.growing.go_on.Given as goal
 
 abbrev pub invariant-loop-e : goal.invariant-loop-e
 invariant-loop-e l =
-    PaintedFrom l.fn.from (raised_code l.fn.out l.fn.el l.fn.d l.fn.q) l.initial.table l.e l.table × (l.dq ≡ course l.fn.el l.fn.q l.fn.sign l.e)
+    PaintedFrom l.fn.from (raised_code l.fn.depths.out l.fn.depths.el l.fn.depths.d l.fn.q) l.initial.table l.e l.table × (l.dq ≡ course l.fn.depths.el l.fn.q l.fn.sign l.e)

@@ -1,9 +1,8 @@
 -- All numbers fit 16 bits. Assumes nothing.
 use mathlib.Core.Path.{◌≡◌}
-use Prim.Native.Nat.{ℕ, ◌+◌, ◌-◌, ◌^◌, ◌≤◌, min}
+use Prim.Native.Nat.{ℕ, ◌-◌, ◌^◌, ◌≤◌}
 use native.Mathlib.Omega.{arith}
 use lib.Pow.{pow_mono}
-use Rattle.residual.proofs.Raising.{plain}
 use Rattle.residual.proofs.rounding.finish.Goals as goal
 
 small : (out p : ℕ) → p ≡ 2 ^ (15 - out) → p ≤ 32768
@@ -11,9 +10,3 @@ small out p e = omega (arith, pow_mono {i = 15 - out} {j = 15} (omega arith))
 
 pub overflow_cast-half : goal.overflow_cast-half
 overflow_cast-half c = omega (arith, small _ _ c.power-half.ensures)
-
-pub returns : goal.returns
-returns c =
-    let s = small _ _ c.power-half.ensures in
-    let cut : c.saturating_add.result ≡ min c.args.v (65535 - c.power-half.result) + c.power-half.result = omega (arith, c.saturating_add.ensures) in
-    rw (cut, c.power-half.ensures) (plain c.args.out c.requires.1 c.args.v)
