@@ -5,13 +5,18 @@ use mathlib.Core.List.{List}
 use Prim.Native.Nat.{ℕ, ◌+◌, ◌-◌, ◌≤◌, ◌<◌}
 use lib.ListN.{length}
 use borrow.Author.Tests.{eqb-true, ltb-true, lt-ltb, le-ltb}
+use Rattle.std.specs.Prelude.{Result, IsErr, IsErrAnd}
+use Rattle.std.proofs.lemmas.Result.{err_from_is_err_and}
+use Rattle.plan.specs.declared.Plan.{Plan}
 use Rattle.plan.specs.Ranges.{header_fits}
 use Rattle.plan.proofs.Truths.{each}
 use Rattle.fields.specs.Fields.{no_name}
 use Rattle.frame.specs.declared.Trailer.{Trailer}
 use Rattle.frame.specs.Frame.{trailer, trailer_fits, trailer_tests, header, zeros_fit, wrong_column}
 use Rattle.block.specs.Reading.{tail, part, refusal, sections, body, read}
+use Rattle.block.specs.declared.Fault.{Fault}
 use Rattle.block.specs.inner.Placed.{Placed}
+use Rattle.block.specs.inner.Answering.{said, denied}
 
 module _ (bytes : List ℕ) where
   pub too_short : length bytes < 12 → refusal 1 0 no_name ≡ read bytes
@@ -50,3 +55,7 @@ unfolding trailer_fits
 placed x e p i =
     let q = each (trailer_tests x) p in
     record { whole = e; header = eqb-true _ _ q.1.1.0; inside = i; first = ltb-true _ _ q.1.1.1.0; second = ltb-true _ _ q.1.1.1.1.0 }
+
+-- the failure that a `?` answers is the one that it met
+pub handed_on : (r : Result Plan Fault) (f : Fault) → IsErr r × IsErrAnd r (λ g. g ≡ f) → said r ≡ denied f
+handed_on r f h = let p = err_from_is_err_and r h.1 in rw (p.1, p.2)

@@ -6,7 +6,7 @@ use Rattle.block.proofs.body.Goals as goal
 
 pub returns-then-not-header_fits-zeros_fit : goal.returns-then-not-header_fits-zeros_fit
 returns-then-not-header_fits-zeros_fit c =
-    c.refused.ensures ∙ rw (c.wrong_column.ensures, c.read_header-h.ensures)
+    rw (c.wrong_column.ensures, c.read_header-h.ensures)
     (bad_header _ _ _ (rw (c.header_fits.ensures, c.zeros_fit.ensures, c.read_header-h.ensures) at c.if-not-header_fits-zeros_fit.true))
 
 pub returns : goal.returns
