@@ -1,12 +1,11 @@
 // Numbers with a fraction: an integer part, and a fraction of four bytes below 2 ^ d.
 ghost use Rattle.std.specs.Prelude.{◌≡◌, ◌^◌, ◌<◌, ◌≤◌, ltb, IfOk};
-ghost use Rattle.plan.specs.inner.Facts.{HeaderFacts};
 ghost use Rattle.fields.specs.inner.Readers.{as_read};
 ghost use Rattle.section_fields.specs.Fields.{ranged};
 ghost use Rattle.sections.specs.Sections.{coefficient, unsigned};
 
+use crate::header::FittingHeader;
 use fields::{Ask, Failure, Width, at_most, below};
-use plan::Header;
 use refusals::Refusal;
 use section_fields::{asked, fraction_asked, integer, signed};
 
@@ -31,29 +30,35 @@ pub(crate) fn below_power(rest: &mut &[u8], a: Ask, bits: u8) -> Result<u64, Fai
 #[tactic(auto, using(crate::proofs::Making::sum_fits))]
 pub(crate) fn coefficient(
     rest: &mut &[u8],
-    h: Header,
+    h: FittingHeader,
     k: usize,
     p: usize,
     idc: u8,
     i: usize,
 ) -> Result<i64, Failure>
-    requires { HeaderFacts h }
-    ensures { as_read result rest.new.now ≡ coefficient h k p idc i rest.old.now }
+    ensures { as_read result rest.new.now ≡ coefficient h.header k p idc i rest.old.now }
 {
-    let one = power(h.d);
+    let bits = h.fraction_bits();
+    let one = power(bits);
     let n = integer(rest, k, p, idc, i)?;
-    let f = below_power(rest, fraction_asked(k, p, idc, i), h.d)?;
+    let f = below_power(rest, fraction_asked(k, p, idc, i), bits)?;
     let a = signed(idc, n);
     Ok(a * (one as i64) + (f as i64))
 }
 
 // A number whose integer part is 0 or 1: the kind is the integer part's, and the fraction's is one more.
-pub(crate) fn unsigned(rest: &mut &[u8], h: Header, k: usize, kind: u8) -> Result<u64, Failure>
-    requires { HeaderFacts h × (kind < 255) }
-    ensures { as_read result rest.new.now ≡ unsigned h k kind rest.old.now }
+pub(crate) fn unsigned(
+    rest: &mut &[u8],
+    h: FittingHeader,
+    k: usize,
+    kind: u8,
+) -> Result<u64, Failure>
+    requires { kind < 255 }
+    ensures { as_read result rest.new.now ≡ unsigned h.header k kind rest.old.now }
 {
-    let one = power(h.d);
+    let bits = h.fraction_bits();
+    let one = power(bits);
     let n = at_most(rest, asked(kind, k, 0, 0, Width::One), 1, Refusal::Field)?;
-    let f = below_power(rest, asked(kind + 1, k, 0, 0, Width::Four), h.d)?;
+    let f = below_power(rest, asked(kind + 1, k, 0, 0, Width::Four), bits)?;
     Ok(n * one + f)
 }

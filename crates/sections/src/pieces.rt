@@ -1,30 +1,30 @@
 // The pieces of a section: mapping_idc, the order, and the coefficients.
 ghost use Rattle.std.specs.Prelude.{◌≡◌, ◌≤◌, pos};
 ghost use Rattle.plan.specs.Ranges.{most_n};
-ghost use Rattle.plan.specs.inner.Facts.{HeaderFacts};
 ghost use Rattle.plan.specs.Rule7.{row_places, piece_places, zero_piece};
 ghost use Rattle.fields.specs.inner.Readers.{as_read, filled};
 ghost use Rattle.sections.specs.Sections.{coefficient, piece};
 ghost use Rattle.sections.specs.inner.Holding.{held};
 
 use crate::fraction::coefficient;
+use crate::header::FittingHeader;
 use fields::Failure;
+use plan::Piece;
 use plan::limits::{PIECES, ROW};
 use plan::methods::coefficients_used;
 use plan::versions::{copy_last, pieces_carried};
-use plan::{Header, Piece};
 use section_fields::{idc, order};
 
 fn row(
     rest: &mut &[u8],
-    h: Header,
+    h: FittingHeader,
     k: usize,
     p: usize,
     idc: u8,
     count: usize,
 ) -> Result<[i64; ROW], Failure>
-    requires { HeaderFacts h × (count ≤ row_places) }
-    ensures { as_read result rest.new.now ≡ filled row_places (pos 0) count (coefficient h k p idc) rest.old.now }
+    requires { count ≤ row_places }
+    ensures { as_read result rest.new.now ≡ filled row_places (pos 0) count (coefficient h.header k p idc) rest.old.now }
 {
     let mut row = [0; ROW];
     for i in 0..count {
@@ -33,9 +33,8 @@ fn row(
     Ok(row)
 }
 
-fn piece(rest: &mut &[u8], h: Header, k: usize, p: usize) -> Result<Piece, Failure>
-    requires { HeaderFacts h }
-    ensures { as_read result rest.new.now ≡ piece h k p rest.old.now }
+fn piece(rest: &mut &[u8], h: FittingHeader, k: usize, p: usize) -> Result<Piece, Failure>
+    ensures { as_read result rest.new.now ≡ piece h.header k p rest.old.now }
 {
     let idc = idc(rest, k, p)?;
     let order = order(rest, k, p, idc)?;
@@ -43,9 +42,14 @@ fn piece(rest: &mut &[u8], h: Header, k: usize, p: usize) -> Result<Piece, Failu
     Ok(Piece { idc, order, row })
 }
 
-fn pieces(rest: &mut &[u8], h: Header, k: usize, count: usize) -> Result<[Piece; PIECES], Failure>
-    requires { HeaderFacts h × (count ≤ piece_places) }
-    ensures { as_read result rest.new.now ≡ filled piece_places zero_piece count (piece h k) rest.old.now }
+fn pieces(
+    rest: &mut &[u8],
+    h: FittingHeader,
+    k: usize,
+    count: usize,
+) -> Result<[Piece; PIECES], Failure>
+    requires { count ≤ piece_places }
+    ensures { as_read result rest.new.now ≡ filled piece_places zero_piece count (piece h.header k) rest.old.now }
 {
     let none = Piece {
         idc: 0,
@@ -63,12 +67,12 @@ fn pieces(rest: &mut &[u8], h: Header, k: usize, count: usize) -> Result<[Piece;
 pub(crate) fn held(
     rest: &mut &[u8],
     version: u16,
-    h: Header,
+    h: FittingHeader,
     k: usize,
     n: u8,
 ) -> Result<[Piece; PIECES], Failure>
-    requires { HeaderFacts h × (n ≤ most_n) }
-    ensures { as_read result rest.new.now ≡ held version h k n rest.old.now }
+    requires { n ≤ most_n }
+    ensures { as_read result rest.new.now ≡ held version h.header k n rest.old.now }
 {
     let carried = pieces(rest, h, k, pieces_carried(version, n))?;
     Ok(copy_last(version, n, carried))

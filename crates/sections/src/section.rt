@@ -1,15 +1,15 @@
 // The whole of a section: the number of pivots, the pivots, the pieces and the residual's numbers, and nothing left over.
 ghost use Rattle.std.specs.Prelude.{◌≡◌, ◌≤◌};
-ghost use Rattle.plan.specs.inner.Facts.{HeaderFacts};
 ghost use Rattle.plan.specs.Rule7.{pivot_places};
 ghost use Rattle.fields.specs.inner.Readers.{as_read, filled};
 ghost use Rattle.sections.specs.Sections.{pivot, nlq, section};
 
 use crate::fraction::{below_power, unsigned};
+use crate::header::FittingHeader;
 use crate::pieces::held;
 use fields::{Failure, Width, at_most, ended};
 use plan::limits::{MOST_N, PIVOTS};
-use plan::{Component, Header, Nlq};
+use plan::{Component, Nlq};
 use refusals::Refusal;
 use section_fields::asked;
 use section_fields::kinds::{
@@ -17,24 +17,28 @@ use section_fields::kinds::{
     THRESHOLD_INT,
 };
 
-fn pivots(rest: &mut &[u8], h: Header, k: usize, count: usize) -> Result<[u16; PIVOTS], Failure>
-    requires { HeaderFacts h × (count ≤ pivot_places) }
-    ensures { as_read result rest.new.now ≡ filled pivot_places 0 count (pivot h k) rest.old.now }
+fn pivots(
+    rest: &mut &[u8],
+    h: FittingHeader,
+    k: usize,
+    count: usize,
+) -> Result<[u16; PIVOTS], Failure>
+    requires { count ≤ pivot_places }
+    ensures { as_read result rest.new.now ≡ filled pivot_places 0 count (pivot h.header k) rest.old.now }
 {
     let mut preds = [0; PIVOTS];
     for i in 0..count {
         let a = asked(PRED_PIVOT_VALUE, k, i, 0, Width::Two);
-        preds[i] = below_power(rest, a, h.bl + 8)? as u16;
+        preds[i] = below_power(rest, a, h.pivot_bits())? as u16;
     }
     Ok(preds)
 }
 
-fn nlq(rest: &mut &[u8], h: Header, k: usize) -> Result<Nlq, Failure>
-    requires { HeaderFacts h }
-    ensures { as_read result rest.new.now ≡ nlq h k rest.old.now }
+fn nlq(rest: &mut &[u8], h: FittingHeader, k: usize) -> Result<Nlq, Failure>
+    ensures { as_read result rest.new.now ≡ nlq h.header k rest.old.now }
 {
     let a = asked(NLQ_OFFSET, k, 0, 0, Width::Two);
-    let offset = below_power(rest, a, h.el + 8)? as u16;
+    let offset = below_power(rest, a, h.offset_bits())? as u16;
     let maximum = unsigned(rest, h, k, HDR_IN_MAX_INT)?;
     let slope = unsigned(rest, h, k, SLOPE_INT)?;
     let threshold = unsigned(rest, h, k, THRESHOLD_INT)?;
@@ -46,15 +50,15 @@ fn nlq(rest: &mut &[u8], h: Header, k: usize) -> Result<Nlq, Failure>
     })
 }
 
-// Section k, which is the whole of what is left. Version 1 carries no piece n + 1, and piece n stands for it.
-pub(crate) fn section(
+// Section k of a block of a version, which is the whole of what is lent. Version 1 carries no piece n + 1, and piece n stands for
+// it. Where a field failed, what is left begins with it.
+pub fn read_section(
     rest: &mut &[u8],
     version: u16,
-    h: Header,
+    h: FittingHeader,
     k: usize,
 ) -> Result<Component, Failure>
-    requires { HeaderFacts h }
-    ensures { as_read result rest.new.now ≡ section version h k rest.old.now }
+    ensures { as_read result rest.new.now ≡ section version h.header k rest.old.now }
 {
     let a = asked(NUM_PIVOTS_MINUS2, k, 0, 0, Width::One);
     let n = at_most(rest, a, u64::from(MOST_N), Refusal::Field)? as u8;

@@ -6,4 +6,4 @@ use Rattle.sections.specs.Sections.{piece}
 use Rattle.sections.proofs.pieces.pieces.Given as goal
 
 abbrev pub invariant-loop-p : goal.invariant-loop-p
-invariant-loop-p l = Filling (piece l.h l.k) l.count l.p l.pieces l.rest.now (filled piece_places zero_piece l.count (piece l.h l.k) l.initial.rest.now)
+invariant-loop-p l = Filling (piece l.h.header l.k) l.count l.p l.pieces l.rest.now (filled piece_places zero_piece l.count (piece l.h.header l.k) l.initial.rest.now)

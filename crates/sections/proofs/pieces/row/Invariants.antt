@@ -7,4 +7,4 @@ use Rattle.sections.specs.Sections.{coefficient}
 use Rattle.sections.proofs.pieces.row.Given as goal
 
 abbrev pub invariant-loop-i : goal.invariant-loop-i
-invariant-loop-i l = Filling (coefficient l.h l.k l.p l.idc) l.count l.i l.row l.rest.now (filled row_places (pos 0) l.count (coefficient l.h l.k l.p l.idc) l.initial.rest.now)
+invariant-loop-i l = Filling (coefficient l.h.header l.k l.p l.idc) l.count l.i l.row l.rest.now (filled row_places (pos 0) l.count (coefficient l.h.header l.k l.p l.idc) l.initial.rest.now)

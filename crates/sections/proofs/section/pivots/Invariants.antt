@@ -6,4 +6,4 @@ use Rattle.sections.specs.Sections.{pivot}
 use Rattle.sections.proofs.section.pivots.Given as goal
 
 abbrev pub invariant-loop-i : goal.invariant-loop-i
-invariant-loop-i l = Filling (pivot l.h l.k) l.count l.i l.preds l.rest.now (filled pivot_places 0 l.count (pivot l.h l.k) l.initial.rest.now)
+invariant-loop-i l = Filling (pivot l.h.header l.k) l.count l.i l.preds l.rest.now (filled pivot_places 0 l.count (pivot l.h.header l.k) l.initial.rest.now)
