@@ -19,7 +19,6 @@ use Rattle.fields.specs.Fields.{Read, refused, got}
 use Rattle.fields.proofs.Giving.{Gives}
 use Rattle.sections.proofs.Places.{and}
 use Rattle.sections.specs.Sections.{section}
-use Rattle.sections.specs.inner.Answering.{under}
 use Rattle.sections.proofs.Fitting.{Fits, section_gives}
 use Rattle.block.specs.declared.Reading.{Reading}
 use Rattle.frame.specs.declared.Trailer.{Trailer}
@@ -32,21 +31,17 @@ part_length bytes a b h =
     let e : b - a ≤ length bytes - a = omega arith in
     length-take-le (b - a) (drop a bytes) (rw (length-drop a bytes) e)
 
--- a section under a header that fits, by what its reader answered
-module _ (a : ℕ) (s : List ℕ) (version : ℕ) (h : Header) (k : ℕ) (fit : header_fits h ≡ true) (next : Component → Reading) where
+-- a section, by what its reader answered
+module _ (a : ℕ) (s : List ℕ) (version : ℕ) (h : Header) (k : ℕ) (next : Component → Reading) where
   -- a failure is the answer
-  pub stop : {i p : ℕ} {name : Name} {rest : List ℕ} → p ≡ a + (length s - length rest) → refused i name rest ≡ under version h k s → refusal i p name ≡ met a s (section version h k s) next
+  pub stop : {i p : ℕ} {name : Name} {rest : List ℕ} → p ≡ a + (length s - length rest) → refused i name rest ≡ section version h k s → refusal i p name ≡ met a s (section version h k s) next
   unfolding met
-  stop e r =
-      let q : refused _ _ _ ≡ section version h k s = rw fit at r in
-      rw (e, ← q)
+  stop e r = rw (e, ← r)
 
   -- else what follows
-  pub go : {c : Component} {rest : List ℕ} → got c rest ≡ under version h k s → next c ≡ met a s (section version h k s) next
+  pub go : {c : Component} {rest : List ℕ} → got c rest ≡ section version h k s → next c ≡ met a s (section version h k s) next
   unfolding met
-  go r =
-      let q : got _ _ ≡ section version h k s = rw fit at r in
-      rw (← q)
+  go r = rw (← r)
 
 -- what an answer keeps: a plan that is accepted passes rule 7 and, of version 1, holds piece n twice; a refused block gives the plan of zeros
 abbrev pub Twice : ℕ → Component → Type 0

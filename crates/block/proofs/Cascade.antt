@@ -1,6 +1,6 @@
 -- The rules in their order, as ways through the definition of reading. Assumes nothing.
 use mathlib.Core.Path.{◌≡◌}
-use mathlib.Core.Bool.{true, false, ◌&&◌}
+use mathlib.Core.Bool.{true, false}
 use mathlib.Core.List.{List}
 use Prim.Native.Nat.{ℕ, ◌+◌, ◌-◌, ◌≤◌, ◌<◌}
 use lib.ListN.{length}
@@ -41,13 +41,17 @@ module _ (bytes : List ℕ) (t : ℕ) (x : Trailer) where
   abbrev pub head : List ℕ
   head = part bytes (t - x.a) (t - x.d0)
 
-  pub bad_header : (header_fits (header head) && zeros_fit head) ≡ false → refusal 4 (t - x.a) (wrong_column head (header head)) ≡ body bytes t x
+  pub unfit_header : header_fits (header head) ≡ false → refusal 4 (t - x.a) (wrong_column head (header head)) ≡ body bytes t x
   unfolding body
-  bad_header e = rw e
+  unfit_header e = rw e
 
-  pub good_header : (header_fits (header head) && zeros_fit head) ≡ true → sections bytes t x (header head) ≡ body bytes t x
+  pub bad_zeros : header_fits (header head) ≡ true → zeros_fit head ≡ false → refusal 4 (t - x.a) (wrong_column head (header head)) ≡ body bytes t x
   unfolding body
-  good_header e = rw e
+  bad_zeros e f = rw (e, f)
+
+  pub good_header : header_fits (header head) ≡ true → zeros_fit head ≡ true → sections bytes t x (header head) ≡ body bytes t x
+  unfolding body
+  good_header e f = rw (e, f)
 
 -- where a trailer that rule 2 passes points
 pub placed : {n t : ℕ} (x : Trailer) → t + 12 ≡ n → trailer_fits x ≡ true → x.a ≤ t → Placed n t x

@@ -1,9 +1,9 @@
 // The composing block, read to a plan.
 #![tactic(auto)]
 
-ghost use Rattle.std.specs.Prelude.{◌≡◌, true, ◌≤◌, length};
-ghost use Rattle.plan.specs.Ranges.{header_fits};
-ghost use Rattle.block.specs.Reading.{with_section, sections, body, read};
+ghost use Rattle.std.specs.Prelude.{◌≡◌, ◌≤◌, length};
+ghost use Rattle.frame.specs.Frame.{wrong_column};
+ghost use Rattle.block.specs.Reading.{refusal, with_section, sections, body, read};
 ghost use Rattle.block.specs.Facts.{Sound, LastBytes};
 ghost use Rattle.block.specs.inner.Placed.{Placed};
 ghost use Rattle.block.specs.inner.Answering.{Answers, said, denied};
@@ -13,7 +13,7 @@ use frame::columns::wrong_column;
 use frame::{Trailer, read_header, read_trailer, trailer_fits, zeros_fit};
 use plan::{Component, Header, Plan};
 use refusals::Refusal;
-use sections::read_section;
+use sections::{FittingHeader, read_section};
 
 // What reading comes to: 0 and the plan, or the refusal's number, the byte and the field where the failure was met, and a plan
 // of zeros. Rules 1 and 2 name no field. It is no Result: a refused block gives a plan of zeros (`Sound`), which rule 7 refuses, so
@@ -53,12 +53,11 @@ fn part(
     a: usize,
     b: usize,
     version: u16,
-    h: Header,
+    h: FittingHeader,
     k: usize,
 ) -> Result<Component, Fault>
-    requires placed { (a ≤ b) × (b ≤ length bytes.now) }
-    requires h_value { header_fits h ≡ true }
-    ensures { Answers result (with_section bytes.now version h k a b) }
+    requires { (a ≤ b) × (b ≤ length bytes.now) }
+    ensures { Answers result (with_section bytes.now version h.header k a b) }
 {
     let mut rest = &bytes[a..b];
     match read_section(&mut rest, version, h, k) {
@@ -72,10 +71,9 @@ fn part(
 }
 
 // The sections from first byte to last: the first failure met is the answer.
-fn sections(bytes: &[u8], t: usize, x: Trailer, h: Header) -> Result<Plan, Fault>
-    requires placed { Placed (length bytes.now) t x }
-    requires h_value { header_fits h ≡ true }
-    ensures { said result ≡ sections bytes.now t x h }
+fn sections(bytes: &[u8], t: usize, x: Trailer, h: FittingHeader) -> Result<Plan, Fault>
+    requires { Placed (length bytes.now) t x }
+    ensures { said result ≡ sections bytes.now t x h.header }
 {
     let a = t - (x.d0 as usize);
     let b = t - (x.d1 as usize);
@@ -84,11 +82,22 @@ fn sections(bytes: &[u8], t: usize, x: Trailer, h: Header) -> Result<Plan, Fault
     let cb = part(bytes, b, c, x.version, h, 1)?;
     let cr = part(bytes, c, t, x.version, h, 2)?;
     Ok(Plan {
-        header: h,
+        header: h.header,
         y,
         cb,
         cr,
     })
+}
+
+// Rule 4: a header that begins at a, named by its first column that does not fit.
+fn wrong_header(head: &[u8], header: Header, a: usize) -> Fault
+    ensures { denied result ≡ refusal 4 a (wrong_column head.now header) }
+{
+    Fault {
+        refusal: Refusal::Header,
+        place: a,
+        field: wrong_column(head, header),
+    }
 }
 
 // The header, and then the sections, whose ranges are made of the header's numbers.
@@ -99,15 +108,17 @@ fn body(bytes: &[u8], t: usize, x: Trailer) -> Result<Plan, Fault>
     let a = t - (x.a as usize);
     let b = t - (x.d0 as usize);
     let head = &bytes[a..b];
-    let h = read_header(head);
-    if !(plan::ranges::header_fits(h) & zeros_fit(head)) {
-        return Err(Fault {
-            refusal: Refusal::Header,
-            place: a,
-            field: wrong_column(head, h),
-        });
+    let header = read_header(head);
+    match FittingHeader::new(header) {
+        Some(h) => {
+            if zeros_fit(head) {
+                sections(bytes, t, x, h)
+            } else {
+                Err(wrong_header(head, header, a))
+            }
+        }
+        None => Err(wrong_header(head, header, a)),
     }
-    sections(bytes, t, x, h)
 }
 
 // The trailer, and then what it points to.
