@@ -16,6 +16,7 @@ use Rattle.plan.specs.Rule7.{pivot_places, piece_places, row_places, pivots_used
 use Rattle.plan.specs.Versions.{pieces_carried, pieces_read}
 use Rattle.fields.specs.declared.Ask.{Ask}
 use Rattle.fields.specs.declared.Width.TheVariants.{One}
+use Rattle.refusals.specs.Refusals.{number_of}
 use Rattle.fields.specs.Fields.{Read, refused, got, ◌then◌, wide, number, field, repeated, padded, ended}
 use Rattle.section_fields.specs.Fields.{asked, ranged}
 use Rattle.sections.specs.Sections.{coefficient, piece, pivot, nlq, section}
@@ -32,7 +33,7 @@ field-has : (a : Ask) (fits : ℕ → Bool) (rule : ℕ → ℕ) (bytes : List �
 unfolding field
 field-has a fits rule bytes = go (ltb (length bytes) (wide a.width)) (fits (number (take (wide a.width) bytes))) refl
   where
-    go : (s t : Bool) → let w = wide a.width in let v = number (take w bytes) in fits v ≡ t → Has (λ v. fits v ≡ true) (cond s (refused a.past a.name bytes) (cond t (got v (drop w bytes)) (refused (rule v) a.name bytes)))
+    go : (s t : Bool) → let w = wide a.width in let v = number (take w bytes) in fits v ≡ t → Has (λ v. fits v ≡ true) (cond s (refused (number_of a.past) a.name bytes) (cond t (got v (drop w bytes)) (refused (rule v) a.name bytes)))
     go true t e = tt
     go false true e = e
     go false false e = tt

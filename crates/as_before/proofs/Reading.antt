@@ -51,7 +51,7 @@ emptied {A} (suc m) z a (x ∷ l) h = ap (λ (r : List A). x ∷ r) (emptied m z
 pub same_section : (h : Header) (k : ℕ) (bytes : List ℕ) → section_before_r2 h k bytes ≡ (section 1 h k bytes then λ c rest. got (without_last c) rest)
 unfolding section section_before_r2
 same_section h k bytes =
-    on_given (ranged (asked 1 k 0 0 One) count_fits bytes) _ _ (λ n. count_fits n ≡ true) (field_gives (asked 1 k 0 0 One) count_fits (λ v. 5) (λ z. omega arith) (λ v z. omega arith) bytes) (λ n few rest.
+    on_given (ranged (asked 1 k 0 0 One) count_fits bytes) _ _ (λ n. count_fits n ≡ true) (field_gives (asked 1 k 0 0 One) count_fits (λ v. 5) (λ v z. omega arith) bytes) (λ n few rest.
     on (repeated 0 (pivots_used n) (pivot h k) rest) _ _ (λ pivots rest.
     on_given (repeated 0 (n + 1) (piece h k) rest) _ _ (λ l. (length l ≡ n + 1) × Each (λ q. piece_fits k h q ≡ true) l) (repeated_gives _ 0 (n + 1) (piece h k) (piece_gives h k) rest) (λ pieces long rest.
     on (nlq h k rest) _ _ (λ q rest.

@@ -1,5 +1,5 @@
 -- What the sections come to: a failure is the answer, or else what follows; and an accepted plan passes rule 7. Assumes nothing.
-use mathlib.Core.Path.{◌≡◌, refl, sym, ap, ◌∙◌}
+use mathlib.Core.Path.{◌≡◌, refl}
 use mathlib.Core.Bool.{Bool, true, false, cond, not, ◌&&◌}
 use mathlib.Core.List.{List}
 use Prim.Native.Nat.{ℕ, ◌+◌, ◌-◌, ◌≤◌}
@@ -17,10 +17,8 @@ use Rattle.plan.proofs.Carrying.{piece_n, piece_above}
 use Rattle.fields.specs.declared.Name.{Name}
 use Rattle.fields.specs.Fields.{Read, refused, got}
 use Rattle.fields.proofs.Giving.{Gives}
-use Rattle.sections.specs.declared.Found.{Found}
 use Rattle.sections.proofs.Places.{and}
 use Rattle.sections.specs.Sections.{section}
-use Rattle.sections.specs.inner.Answering.{under, found}
 use Rattle.sections.proofs.Fitting.{Fits, section_gives}
 use Rattle.block.specs.declared.Reading.{Reading}
 use Rattle.frame.specs.declared.Trailer.{Trailer}
@@ -33,29 +31,17 @@ part_length bytes a b h =
     let e : b - a ≤ length bytes - a = omega arith in
     length-take-le (b - a) (drop a bytes) (rw (length-drop a bytes) e)
 
--- under a header that fits, a section's answer is what it reads
-is_found : (s : List ℕ) (version : ℕ) (h : Header) (k : ℕ) {f : Found} → header_fits h ≡ true → f ≡ found s (under version h k s) → f ≡ found s (section version h k s)
-is_found s version h k fit e = e ∙ rw fit
-
--- a section that was read, by what its reader answered
-module _ (a : ℕ) (s : List ℕ) (version : ℕ) (h : Header) (k : ℕ) (fit : header_fits h ≡ true) (next : Component → Reading) {f : Found} {x : Reading} (e : f ≡ found s (under version h k s)) where
+-- a section, by what its reader answered
+module _ (a : ℕ) (s : List ℕ) (version : ℕ) (h : Header) (k : ℕ) (next : Component → Reading) where
   -- a failure is the answer
-  pub stop : (f.number ≡ 0 → ⊥) → x ≡ refusal f.number (a + f.place) f.field → x ≡ met a s (section version h k s) next
-  unfolding met found
-  stop g p = by (section version h k s) (is_found s version h k fit e)
-    where
-      by : (r : Read Component) → f ≡ found s r → x ≡ met a s r next
-      by (refused n name rest) q = p ∙ ap (λ (f : Found). refusal f.number (a + f.place) f.field) q
-      by (got c rest) q = absurd (g (ap (λ (f : Found). f.number) q))
+  pub stop : {i p : ℕ} {name : Name} {rest : List ℕ} → p ≡ a + (length s - length rest) → refused i name rest ≡ section version h k s → refusal i p name ≡ met a s (section version h k s) next
+  unfolding met
+  stop e r = rw (e, ← r)
 
   -- else what follows
-  pub go : f.number ≡ 0 → x ≡ next f.component → x ≡ met a s (section version h k s) next
-  unfolding met found
-  go g p = by (section version h k s) (section_gives h k version s) (is_found s version h k fit e)
-    where
-      by : (r : Read Component) → Gives (Fits h k version) r → f ≡ found s r → x ≡ met a s r next
-      by (refused n name rest) some q = absurd (some (sym (ap (λ (f : Found). f.number) q) ∙ g))
-      by (got c rest) some q = p ∙ ap (λ (f : Found). next f.component) q
+  pub go : {c : Component} {rest : List ℕ} → got c rest ≡ section version h k s → next c ≡ met a s (section version h k s) next
+  unfolding met
+  go r = rw (← r)
 
 -- what an answer keeps: a plan that is accepted passes rule 7 and, of version 1, holds piece n twice; a refused block gives the plan of zeros
 abbrev pub Twice : ℕ → Component → Type 0

@@ -1,17 +1,22 @@
 -- The rules in their order, as ways through the definition of reading. Assumes nothing.
 use mathlib.Core.Path.{◌≡◌}
-use mathlib.Core.Bool.{true, false, ◌&&◌}
+use mathlib.Core.Bool.{true, false}
 use mathlib.Core.List.{List}
 use Prim.Native.Nat.{ℕ, ◌+◌, ◌-◌, ◌≤◌, ◌<◌}
 use lib.ListN.{length}
 use borrow.Author.Tests.{eqb-true, ltb-true, lt-ltb, le-ltb}
+use Rattle.std.specs.Prelude.{Result, IsErr, IsErrAnd}
+use Rattle.std.proofs.lemmas.Result.{err_from_is_err_and}
+use Rattle.plan.specs.declared.Plan.{Plan}
 use Rattle.plan.specs.Ranges.{header_fits}
 use Rattle.plan.proofs.Truths.{each}
 use Rattle.fields.specs.Fields.{no_name}
 use Rattle.frame.specs.declared.Trailer.{Trailer}
 use Rattle.frame.specs.Frame.{trailer, trailer_fits, trailer_tests, header, zeros_fit, wrong_column}
 use Rattle.block.specs.Reading.{tail, part, refusal, sections, body, read}
+use Rattle.block.specs.declared.Fault.{Fault}
 use Rattle.block.specs.inner.Placed.{Placed}
+use Rattle.block.specs.inner.Answering.{said, denied}
 
 module _ (bytes : List ℕ) where
   pub too_short : length bytes < 12 → refusal 1 0 no_name ≡ read bytes
@@ -36,13 +41,17 @@ module _ (bytes : List ℕ) (t : ℕ) (x : Trailer) where
   abbrev pub head : List ℕ
   head = part bytes (t - x.a) (t - x.d0)
 
-  pub bad_header : (header_fits (header head) && zeros_fit head) ≡ false → refusal 4 (t - x.a) (wrong_column head (header head)) ≡ body bytes t x
+  pub unfit_header : header_fits (header head) ≡ false → refusal 4 (t - x.a) (wrong_column head (header head)) ≡ body bytes t x
   unfolding body
-  bad_header e = rw e
+  unfit_header e = rw e
 
-  pub good_header : (header_fits (header head) && zeros_fit head) ≡ true → sections bytes t x (header head) ≡ body bytes t x
+  pub bad_zeros : header_fits (header head) ≡ true → zeros_fit head ≡ false → refusal 4 (t - x.a) (wrong_column head (header head)) ≡ body bytes t x
   unfolding body
-  good_header e = rw e
+  bad_zeros e f = rw (e, f)
+
+  pub good_header : header_fits (header head) ≡ true → zeros_fit head ≡ true → sections bytes t x (header head) ≡ body bytes t x
+  unfolding body
+  good_header e f = rw (e, f)
 
 -- where a trailer that rule 2 passes points
 pub placed : {n t : ℕ} (x : Trailer) → t + 12 ≡ n → trailer_fits x ≡ true → x.a ≤ t → Placed n t x
@@ -50,3 +59,7 @@ unfolding trailer_fits
 placed x e p i =
     let q = each (trailer_tests x) p in
     record { whole = e; header = eqb-true _ _ q.1.1.0; inside = i; first = ltb-true _ _ q.1.1.1.0; second = ltb-true _ _ q.1.1.1.1.0 }
+
+-- the failure that a `?` answers is the one that it met
+pub handed_on : (r : Result Plan Fault) (f : Fault) → IsErr r × IsErrAnd r (λ g. g ≡ f) → said r ≡ denied f
+handed_on r f h = let p = err_from_is_err_and r h.1 in rw (p.1, p.2)

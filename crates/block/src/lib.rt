@@ -1,20 +1,23 @@
 // The composing block, read to a plan.
 #![tactic(auto)]
 
-ghost use Rattle.std.specs.Prelude.{◌≡◌, true, ◌+◌, ◌≤◌, length};
-ghost use Rattle.plan.specs.Ranges.{header_fits};
-ghost use Rattle.block.specs.Reading.{refusal, sections, body, read};
+ghost use Rattle.std.specs.Prelude.{◌≡◌, ◌≤◌, length};
+ghost use Rattle.frame.specs.Frame.{wrong_column};
+ghost use Rattle.block.specs.Reading.{refusal, with_section, sections, body, read};
 ghost use Rattle.block.specs.Facts.{Sound, LastBytes};
-ghost use Rattle.block.specs.inner.Placed.{Placed, section_at};
+ghost use Rattle.block.specs.inner.Placed.{Placed};
+ghost use Rattle.block.specs.inner.Answering.{Answers, said, denied};
 
 use fields::{Name, nameless};
 use frame::columns::wrong_column;
 use frame::{Trailer, read_header, read_trailer, trailer_fits, zeros_fit};
-use plan::{Header, Plan};
-use sections::{Found, read_section};
+use plan::{Component, Header, Plan};
+use refusals::Refusal;
+use sections::{FittingHeader, read_section};
 
 // What reading comes to: 0 and the plan, or the refusal's number, the byte and the field where the failure was met, and a plan
-// of zeros. Rules 1 and 2 name no field.
+// of zeros. Rules 1 and 2 name no field. It is no Result: a refused block gives a plan of zeros (`Sound`), which rule 7 refuses, so
+// that a caller who does not ask for the number composes nothing.
 #[derive(Clone, Copy)]
 pub struct Reading {
     pub number: u8,
@@ -23,104 +26,144 @@ pub struct Reading {
     pub plan: Plan,
 }
 
+// A failure, and where it was met.
+#[derive(Clone, Copy)]
+struct Fault {
+    refusal: Refusal,
+    place: usize,
+    field: Name,
+}
+
 // A refused block hands back nothing of what was read.
-fn refused(number: u8, place: usize, field: Name) -> Reading
-    ensures { result ≡ refusal number place field }
+fn refused(fault: Fault) -> Reading
+    ensures { result ≡ denied fault }
 {
     let plan = plan::empty();
     Reading {
-        number: number,
-        place: place,
-        field: field,
-        plan: plan,
+        number: fault.refusal.number(),
+        place: fault.place,
+        field: fault.field,
+        plan,
     }
 }
 
 // Section k of a version, the bytes from a up to b. It is a part of the slice, so that its fields cannot run into the next one's.
-fn part(bytes: &[u8], a: usize, b: usize, version: u16, h: Header, k: usize) -> Found
+fn part(
+    bytes: &[u8],
+    a: usize,
+    b: usize,
+    version: u16,
+    h: FittingHeader,
+    k: usize,
+) -> Result<Component, Fault>
     requires { (a ≤ b) × (b ≤ length bytes.now) }
-    ensures { (result ≡ section_at bytes.now a b version h k) × (a + result.place ≤ b) }
+    ensures { Answers result (with_section bytes.now version h.header k a b) }
 {
-    read_section(&bytes[a..b], version, h, k)
+    let mut rest = &bytes[a..b];
+    match read_section(&mut rest, version, h, k) {
+        Ok(component) => Ok(component),
+        Err(failure) => Err(Fault {
+            refusal: failure.refusal,
+            place: a + (b - a).saturating_sub(rest.len()),
+            field: failure.name,
+        }),
+    }
 }
 
 // The sections from first byte to last: the first failure met is the answer.
-fn sections(bytes: &[u8], t: usize, x: Trailer, h: Header) -> Reading
-    requires placed { Placed (length bytes.now) t x }
-    requires h_value { header_fits h ≡ true }
-    ensures { result ≡ sections bytes.now t x h }
+fn sections(bytes: &[u8], t: usize, x: Trailer, h: FittingHeader) -> Result<Plan, Fault>
+    requires { Placed (length bytes.now) t x }
+    ensures { said result ≡ sections bytes.now t x h.header }
 {
     let a = t - (x.d0 as usize);
     let b = t - (x.d1 as usize);
     let c = t - (x.d2 as usize);
-    let y = part(bytes, a, b, x.version, h, 0);
-    let first = y.component;
-    if y.number != 0 {
-        let field = y.field;
-        return refused(y.number, a + y.place, field);
-    }
-    let cb = part(bytes, b, c, x.version, h, 1);
-    let second = cb.component;
-    if cb.number != 0 {
-        let field = cb.field;
-        return refused(cb.number, b + cb.place, field);
-    }
-    let cr = part(bytes, c, t, x.version, h, 2);
-    let third = cr.component;
-    if cr.number != 0 {
-        let field = cr.field;
-        return refused(cr.number, c + cr.place, field);
-    }
-    let plan = Plan {
-        header: h,
-        y: first,
-        cb: second,
-        cr: third,
-    };
-    let none = nameless();
-    Reading {
-        number: 0,
-        place: 0,
-        field: none,
-        plan: plan,
+    let y = part(bytes, a, b, x.version, h, 0)?;
+    let cb = part(bytes, b, c, x.version, h, 1)?;
+    let cr = part(bytes, c, t, x.version, h, 2)?;
+    Ok(Plan {
+        header: h.header,
+        y,
+        cb,
+        cr,
+    })
+}
+
+// Rule 4: a header that begins at a, named by its first column that does not fit.
+fn wrong_header(head: &[u8], header: Header, a: usize) -> Fault
+    ensures { denied result ≡ refusal 4 a (wrong_column head.now header) }
+{
+    Fault {
+        refusal: Refusal::Header,
+        place: a,
+        field: wrong_column(head, header),
     }
 }
 
 // The header, and then the sections, whose ranges are made of the header's numbers.
-fn body(bytes: &[u8], t: usize, x: Trailer) -> Reading
+fn body(bytes: &[u8], t: usize, x: Trailer) -> Result<Plan, Fault>
     requires { Placed (length bytes.now) t x }
-    ensures { result ≡ body bytes.now t x }
+    ensures { said result ≡ body bytes.now t x }
 {
     let a = t - (x.a as usize);
     let b = t - (x.d0 as usize);
     let head = &bytes[a..b];
-    let h = read_header(head);
-    if !(plan::ranges::header_fits(h) & zeros_fit(head)) {
-        return refused(4, a, wrong_column(head, h));
+    let header = read_header(head);
+    match FittingHeader::new(header) {
+        Some(h) => {
+            if zeros_fit(head) {
+                sections(bytes, t, x, h)
+            } else {
+                Err(wrong_header(head, header, a))
+            }
+        }
+        None => Err(wrong_header(head, header, a)),
     }
-    sections(bytes, t, x, h)
 }
 
-// Reads a composing block: the bytes before its header are ignored.
+// The trailer, and then what it points to.
 #[tactic(auto, using(crate::proofs::Cascade::bad_trailer))]
-pub fn read(bytes: &[u8]) -> Reading
-    ensures value { result ≡ read bytes.now }
-    ensures sound { Sound result }
+fn plan_of(bytes: &[u8]) -> Result<Plan, Fault>
+    ensures { said result ≡ read bytes.now }
 {
-    let none = nameless();
+    let short = Fault {
+        refusal: Refusal::Short,
+        place: 0,
+        field: nameless(),
+    };
     if bytes.len() < 12 {
-        return refused(1, 0, none);
+        return Err(short);
     }
     let t = bytes.len() - 12;
     let x = read_trailer(&bytes[t..]);
     if !trailer_fits(x) {
-        return refused(2, t, none);
+        return Err(Fault {
+            refusal: Refusal::Trailer,
+            place: t,
+            field: nameless(),
+        });
     }
     // The rest of rule 1 comes after rule 2: only a trailer that passes is believed.
     if t < (x.a as usize) {
-        return refused(1, 0, none);
+        return Err(short);
     }
     body(bytes, t, x)
+}
+
+// Reads a composing block: the bytes before its header are ignored.
+pub fn read(bytes: &[u8]) -> Reading
+    ensures value { result ≡ read bytes.now }
+    ensures sound { Sound result }
+{
+    match plan_of(bytes) {
+        Ok(plan) => Reading {
+            number: 0,
+            place: 0,
+            field: nameless(),
+            plan,
+        },
+        Err(fault) => refused(fault),
+    }
 }
 
 // Carries a fact of reading, so that the gate names it: bytes before the last A + 12 change nothing.

@@ -6,6 +6,9 @@ use mathlib.Core.List.{List, [], ◌∷◌}
 use Prim.Native.Nat.{ℕ, zero, suc}
 use lib.Dec.{ltb}
 use lib.ListN.{length, take, drop}
+use Rattle.refusals.specs.declared.Refusal.{Refusal}
+use Rattle.refusals.specs.declared.Refusal.TheVariants.{Short, Trailer, Length, Header, Field, Reserved, Plan, Ticket, Run, Rows, Sample, Room, Method}
+use Rattle.refusals.specs.Refusals.{number_of}
 use Rattle.fields.specs.declared.Name.{Name}
 use Rattle.fields.specs.declared.Ask.{Ask}
 use Rattle.fields.specs.Fields.{Read, refused, got, ◌then◌, wide, number, field, repeated, ended}
@@ -23,13 +26,29 @@ pub then_gives : {A B : Type 0} (P : A → Type 0) (Q : B → Type 0) (r : Read 
 then_gives P Q (refused k name rest) next g f = g
 then_gives P Q (got a rest) next g f = f a g rest
 
+-- a rule has a number
+numbered : (r : Refusal) → number_of r ≡ 0 → ⊥
+numbered Short e = cc
+numbered Trailer e = cc
+numbered Length e = cc
+numbered Header e = cc
+numbered Field e = cc
+numbered Reserved e = cc
+numbered Plan e = cc
+numbered Ticket e = cc
+numbered Run e = cc
+numbered Rows e = cc
+numbered Sample e = cc
+numbered Room e = cc
+numbered Method e = cc
+
 -- a field's value fits
-pub field_gives : (a : Ask) (fits : ℕ → Bool) (rule : ℕ → ℕ) → (a.past ≡ 0 → ⊥) → ((v : ℕ) → rule v ≡ 0 → ⊥) → (bytes : List ℕ) → Gives (λ v. fits v ≡ true) (field a fits rule bytes)
+pub field_gives : (a : Ask) (fits : ℕ → Bool) (rule : ℕ → ℕ) → ((v : ℕ) → rule v ≡ 0 → ⊥) → (bytes : List ℕ) → Gives (λ v. fits v ≡ true) (field a fits rule bytes)
 unfolding field
-field_gives a fits rule past some bytes = go (ltb (length bytes) (wide a.width)) (fits (number (take (wide a.width) bytes))) refl
+field_gives a fits rule some bytes = go (ltb (length bytes) (wide a.width)) (fits (number (take (wide a.width) bytes))) refl
   where
-    go : (s t : Bool) → let w = wide a.width in let v = number (take w bytes) in fits v ≡ t → Gives (λ v. fits v ≡ true) (cond s (refused a.past a.name bytes) (cond t (got v (drop w bytes)) (refused (rule v) a.name bytes)))
-    go true t e = past
+    go : (s t : Bool) → let w = wide a.width in let v = number (take w bytes) in fits v ≡ t → Gives (λ v. fits v ≡ true) (cond s (refused (number_of a.past) a.name bytes) (cond t (got v (drop w bytes)) (refused (rule v) a.name bytes)))
+    go true t e = numbered a.past
     go false true e = e
     go false false e = some _
 

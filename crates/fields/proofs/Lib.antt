@@ -1,5 +1,5 @@
 pub mod Digits
-pub mod Stepping
 pub mod Following
+pub mod Stepping
 pub mod Filling
 pub mod Giving

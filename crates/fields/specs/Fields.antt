@@ -1,5 +1,6 @@
 -- Reading field by field: the first failure met is the answer.
 use Rattle.std.specs.Prelude.{Bool, cond, List, [], ◌∷◌, ℕ, zero, suc, ◌+◌, ◌*◌, leb, ltb, length, take, drop}
+use Rattle.refusals.specs.Refusals.{number_of}
 use Rattle.fields.specs.declared.Name.{Name}
 use Rattle.fields.specs.declared.Width.{Width}
 use Rattle.fields.specs.declared.Width.TheVariants.{One, Two, Four}
@@ -41,7 +42,7 @@ unfoldable pub field : Ask → (ℕ → Bool) → (ℕ → ℕ) → List ℕ →
 field a fits rule bytes =
     let w = wide a.width in
     let v = number (take w bytes) in
-    cond (ltb (length bytes) w) (refused a.past a.name bytes)
+    cond (ltb (length bytes) w) (refused (number_of a.past) a.name bytes)
     (cond (fits v) (got v (drop w bytes)) (refused (rule v) a.name bytes))
 
 -- the same reading n times, for the indices from i on

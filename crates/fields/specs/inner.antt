@@ -1,1 +1,1 @@
-pub mod Cursors
+pub mod Readers

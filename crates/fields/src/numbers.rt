@@ -1,11 +1,11 @@
 // Big-endian numbers: the first byte is the greatest.
-ghost use Rattle.std.specs.Prelude.{◌≡◌, ◌+◌, ◌^◌, ◌<◌, ◌≤◌, length, take, drop};
+ghost use Rattle.std.specs.Prelude.{◌≡◌, ◌+◌, ◌^◌, ◌<◌, ◌≤◌, length};
 ghost use Rattle.fields.specs.Fields.{wide, number, number_at};
 
 use crate::Width;
 
 pub(crate) fn width_of(w: Width) -> usize
-    ensures { (result ≡ wide w) × ((0 < result) × (result ≤ 4)) }
+    ensures { (result ≡ wide w) × (result ≤ 4) }
 {
     match w {
         Width::One => 1,
@@ -14,22 +14,13 @@ pub(crate) fn width_of(w: Width) -> usize
     }
 }
 
-fn byte(b: u8) -> u64
-    ensures { (result ≡ b) × (result < 256) }
+pub(crate) fn number(bytes: &[u8]) -> u64
+    requires { length bytes.now ≤ 4 }
+    ensures { (result ≡ number bytes.now) × (result < 256 ^ length bytes.now) }
 {
-    b as u64
-}
-
-// The number of the w bytes from `at` on.
-pub(crate) fn number(s: &[u8], at: usize, w: usize) -> u64
-    requires { (at + w ≤ length s.now) × (w ≤ 4) }
-    ensures { (result ≡ number (take w (drop at s.now))) × (result < 256 ^ w) }
-{
-    let mut v: u64 = 0;
-    let mut i: usize = 0;
-    while i < w {
-        v = v * 256 + byte(s[at + i]);
-        i += 1;
+    let mut v = 0;
+    for b in bytes {
+        v = v * 256 + u64::from(*b);
     }
     v
 }
@@ -39,13 +30,10 @@ fn number_at(s: &[u8], at: usize, w: usize) -> u64
     requires { w ≤ 4 }
     ensures { (result ≡ number_at s.now at w) × (result < 256 ^ w) }
 {
-    if s.len() < w {
+    if s.len() < w || s.len() - w < at {
         return 0;
     }
-    if s.len() - w < at {
-        return 0;
-    }
-    number(s, at, w)
+    number(&s[at..at + w])
 }
 
 pub fn one(s: &[u8], at: usize) -> u8

@@ -14,6 +14,7 @@ use borrow.Author.Tests.{ltb-false, le-ltb}
 use Rattle.plan.proofs.Truths.{both}
 use Rattle.fields.specs.declared.Name.{Name}
 use Rattle.fields.specs.declared.Ask.{Ask}
+use Rattle.refusals.specs.Refusals.{number_of}
 use Rattle.fields.specs.Fields.{Read, refused, got, ◌then◌, wide, number, field, repeated, ended}
 use Rattle.fields.proofs.Giving.{Each}
 use Rattle.pen.specs.Bytes.{bytes_of}
@@ -69,7 +70,7 @@ field_mirrors a fits rule small =
 
     go : (bytes : List ℕ) → are_bytes bytes ≡ true → (s t : Bool) → ltb (length bytes) (wide a.width) ≡ s → fits (number (take (wide a.width) bytes)) ≡ t
         → let v = number (take (wide a.width) bytes) in
-        Spelled Any (bytes_of (wide a.width)) (λ v. fits v ≡ true) bytes (cond s (refused a.past a.name bytes) (cond t (got v (drop (wide a.width) bytes)) (refused (rule v) a.name bytes)))
+        Spelled Any (bytes_of (wide a.width)) (λ v. fits v ≡ true) bytes (cond s (refused (number_of a.past) a.name bytes) (cond t (got v (drop (wide a.width) bytes)) (refused (rule v) a.name bytes)))
     go bytes h true t e f = tt
     go bytes h false true e f =
         let n = wide a.width in

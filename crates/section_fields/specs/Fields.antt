@@ -4,14 +4,15 @@
 -- 15 mmr_order_minus1, 16 mmr_constant_int, 17 mmr_constant, 18 mmr_coef_int, 19 mmr_coef.
 use Rattle.std.specs.Prelude.{Bool, cond, ◌||◌, List, ℕ, ◌-◌, ◌/◌, ◌^◌, ltb, eqb, ℤ, pos, ◌-ℤ◌}
 use Rattle.plan.specs.Ranges.{within, integer_limit}
+use Rattle.refusals.specs.declared.Refusal.TheVariants.{Length}
 use Rattle.fields.specs.declared.Width.{Width}
 use Rattle.fields.specs.declared.Width.TheVariants.{One, Four}
 use Rattle.fields.specs.declared.Ask.{Ask}
 use Rattle.fields.specs.Fields.{Read, wide, field}
 
--- what is asked of a field of section k, with its indices: 3 where it runs past its section
+-- what is asked of a field of section k, with its indices: rule 3 where it runs past its section
 abbrev pub asked : ℕ → ℕ → ℕ → ℕ → Width → Ask
-asked kind k i j width = record { name = record { kind = kind; first = k; second = i; third = j }; width = width; past = 3 }
+asked kind k i j width = record { name = record { kind = kind; first = k; second = i; third = j }; width = width; past = Length }
 
 -- a field that is refused 5 where it is outside its range
 abbrev pub ranged : Ask → (ℕ → Bool) → List ℕ → Read ℕ

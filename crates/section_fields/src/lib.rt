@@ -3,17 +3,18 @@
 
 pub mod kinds; // the kinds of a section's fields
 
-ghost use Rattle.std.specs.Prelude.{true, ◌≡◌, ◌+◌, ◌^◌, ◌≤◌};
+ghost use Rattle.std.specs.Prelude.{true, ◌≡◌, ◌+◌, ◌^◌, ◌≤◌, IfOk};
 ghost use Rattle.plan.specs.Ranges.{idc_fits, order_fits};
-ghost use Rattle.fields.specs.inner.Cursors.{step};
+ghost use Rattle.fields.specs.inner.Readers.{as_read};
 ghost use Rattle.fields.specs.declared.Width.TheVariants.{One, Four};
-ghost use Rattle.section_fields.specs.Fields.{asked, order_kind, integer_kind, integer_width, numbers, signed, integer_fits};
+ghost use Rattle.section_fields.specs.Fields.{asked, ranged, order_kind, integer_kind, integer_width, numbers, signed, integer_fits};
 
-use fields::{Ask, Cursor, Field, Name, Width, at_most, judged, raw};
+use fields::{Ask, Failure, Name, Width, at_most, raw};
 use kinds::{
     MAPPING_IDC, MMR_COEF_INT, MMR_CONSTANT_INT, MMR_ORDER_MINUS1, POLY_COEF_INT, POLY_ORDER_MINUS1,
 };
 use plan::methods::{MMR, integer_limit, most_idc, most_order};
+use refusals::Refusal;
 
 // What is asked of a field of section k.
 pub fn asked(kind: u8, k: usize, i: usize, j: usize, width: Width) -> Ask
@@ -27,17 +28,18 @@ pub fn asked(kind: u8, k: usize, i: usize, j: usize, width: Width) -> Ask
             third: j,
         },
         width: width,
-        past: 3,
+        past: Refusal::Length,
     }
 }
 
 // mapping_idc of piece p.
-pub fn idc(s: &[u8], c: Cursor, k: usize, p: usize) -> Field
-    ensures value { result ≡ step s.now c (asked 3 k p 0 One) (idc_fits k) (λ v. 5) }
-    ensures small { result.value ≤ 1 }
+pub fn idc(rest: &mut &[u8], k: usize, p: usize) -> Result<u8, Failure>
+    ensures value { as_read result rest.new.now ≡ ranged (asked 3 k p 0 One) (idc_fits k) rest.old.now }
+    ensures small { IfOk result (λ v. v ≤ 1) }
 {
     let a = asked(MAPPING_IDC, k, p, 0, Width::One);
-    at_most(s, c, a, most_idc(k) as u64, 5)
+    let v = at_most(rest, a, u64::from(most_idc(k)), Refusal::Field)?;
+    Ok(v as u8)
 }
 
 fn order_kind(idc: u8) -> u8
@@ -51,12 +53,13 @@ fn order_kind(idc: u8) -> u8
 }
 
 // poly_order_minus1 or mmr_order_minus1 of piece p.
-pub fn order(s: &[u8], c: Cursor, k: usize, p: usize, idc: u8) -> Field
-    ensures value { result ≡ step s.now c (asked (order_kind idc) k p 0 One) (order_fits idc) (λ v. 5) }
-    ensures fits { order_fits idc result.value ≡ true }
+pub fn order(rest: &mut &[u8], k: usize, p: usize, idc: u8) -> Result<u8, Failure>
+    ensures value { as_read result rest.new.now ≡ ranged (asked (order_kind idc) k p 0 One) (order_fits idc) rest.old.now }
+    ensures fits { IfOk result (λ v. order_fits idc v ≡ true) }
 {
     let a = asked(order_kind(idc), k, p, 0, Width::One);
-    at_most(s, c, a, most_order(idc) as u64, 5)
+    let v = at_most(rest, a, u64::from(most_order(idc)), Refusal::Field)?;
+    Ok(v as u8)
 }
 
 // The kind of the integer part in place i of a row; its fraction's is one more.
@@ -86,10 +89,12 @@ fn integer_numbers(idc: u8) -> u64
     if idc == MMR { 4294967296 } else { 256 }
 }
 
-fn integer_asked(k: usize, p: usize, idc: u8, i: usize) -> Ask
-    ensures { result ≡ asked (integer_kind idc i) k p i (integer_width idc) }
+fn integer_fits(idc: u8, v: u64) -> bool
+    ensures { result ≡ integer_fits idc v }
 {
-    asked(integer_kind(idc, i), k, p, i, integer_width(idc))
+    let m = integer_limit(idc);
+    let top = integer_numbers(idc);
+    (v < m) | ((top - m <= v) & (v <= top - 1))
 }
 
 // What is asked of the fraction in place i of piece p.
@@ -100,17 +105,21 @@ pub fn fraction_asked(k: usize, p: usize, idc: u8, i: usize) -> Ask
 }
 
 // The integer part in place i of piece p, as its bytes stand.
-pub fn integer(s: &[u8], c: Cursor, k: usize, p: usize, idc: u8, i: usize) -> Field
-    ensures value { result ≡ step s.now c (asked (integer_kind idc i) k p i (integer_width idc)) (integer_fits idc) (λ v. 5) }
-    ensures fits { integer_fits idc result.value ≡ true }
+pub fn integer(rest: &mut &[u8], k: usize, p: usize, idc: u8, i: usize) -> Result<u32, Failure>
+    ensures value { as_read result rest.new.now ≡ ranged (asked (integer_kind idc i) k p i (integer_width idc)) (integer_fits idc) rest.old.now }
+    ensures fits { IfOk result (λ v. integer_fits idc v ≡ true) }
 {
-    let a = integer_asked(k, p, idc, i);
-    let name = a.name;
-    let m = integer_limit(idc);
-    let top = integer_numbers(idc);
-    let f = raw(s, c, a);
-    let v = f.value;
-    judged(c, name, f, (v < m) | ((top - m <= v) & (v <= top - 1)), 5)
+    let a = asked(integer_kind(idc, i), k, p, i, integer_width(idc));
+    let mut after = *rest;
+    let v = raw(&mut after, a)?;
+    if !integer_fits(idc, v) {
+        return Err(Failure {
+            refusal: Refusal::Field,
+            name: a.name,
+        });
+    }
+    *rest = after;
+    Ok(v as u32)
 }
 
 // The number that an integer part's bytes stand for.

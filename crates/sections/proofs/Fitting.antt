@@ -2,7 +2,7 @@
 use mathlib.Core.Path.{◌≡◌, refl}
 use mathlib.Core.Bool.{Bool, true}
 use mathlib.Core.List.{List}
-use Prim.Native.Nat.{ℕ, ◌+◌, ◌≤◌}
+use Prim.Native.Nat.{ℕ, ◌+◌}
 use native.Mathlib.Omega.{arith}
 use lib.Dec.{leb, eqb}
 use lib.IntN.{pos}
@@ -17,18 +17,17 @@ use Rattle.plan.specs.Versions.{pieces_carried, pieces_read}
 use Rattle.plan.proofs.Carrying.{piece_n, piece_above}
 use Rattle.fields.specs.declared.Width.{Width}
 use Rattle.fields.specs.declared.Width.TheVariants.{One, Two, Four}
-use Rattle.fields.specs.Fields.{Read, refused, got, repeated, padded}
+use Rattle.fields.specs.Fields.{repeated, padded}
 use Rattle.fields.proofs.Giving.{Each, Gives, then_gives, field_gives, repeated_gives, ended_gives}
 use Rattle.section_fields.specs.Fields.{asked, ranged, order_kind, integer_kind, integer_width, integer_fits}
 use Rattle.sections.specs.Sections.{coefficient, unsigned, piece, pivot, nlq, section}
-use Rattle.sections.specs.inner.Answering.{found}
 use Rattle.sections.proofs.Places.{and, places}
 use Rattle.sections.proofs.Carried.{all_read, stands_twice}
 use Rattle.sections.proofs.Ranged.{unsigned_in, coefficient_in}
 
 -- a field that has a range
 in_range : (kind k i j : ℕ) (w : Width) (fits : ℕ → Bool) (bytes : List ℕ) → Gives (λ v. fits v ≡ true) (ranged (asked kind k i j w) fits bytes)
-in_range kind k i j w fits bytes = field_gives (asked kind k i j w) fits (λ v. 5) (λ z. omega arith) (λ v z. omega arith) bytes
+in_range kind k i j w fits bytes = field_gives (asked kind k i j w) fits (λ v. 5) (λ v z. omega arith) bytes
 
 module _ (h : Header) (k : ℕ) where
   coefficient_gives : (p idc i : ℕ) (bytes : List ℕ) → Gives (λ z. coefficient_fits h idc z ≡ true) (coefficient h k p idc i bytes)
@@ -93,9 +92,3 @@ module _ (h : Header) (k : ℕ) where
             (and (places (piece_fits k h) (piece_empty h) zero_piece no_piece empty_piece piece_places (pieces_used n) (pieces_read version n m) r.0 r.1) e)),
         twice version n m a d.0,
       ) rest))))
-
--- where a section failed, in its bytes
-pub place_le : (s : List ℕ) (r : Read Component) → (found s r).place ≤ length s
-unfolding found
-place_le s (refused k name rest) = omega arith
-place_le s (got c rest) = omega arith

@@ -1,115 +1,79 @@
 // The pieces of a section: mapping_idc, the order, and the coefficients.
-ghost use Rattle.std.specs.Prelude.{◌≤◌, pos};
+ghost use Rattle.std.specs.Prelude.{◌≡◌, ◌≤◌, pos};
 ghost use Rattle.plan.specs.Ranges.{most_n};
-ghost use Rattle.plan.specs.inner.Facts.{HeaderFacts};
 ghost use Rattle.plan.specs.Rule7.{row_places, piece_places, zero_piece};
-ghost use Rattle.fields.specs.inner.Cursors.{Reads, filled};
+ghost use Rattle.fields.specs.inner.Readers.{as_read, filled};
 ghost use Rattle.sections.specs.Sections.{coefficient, piece};
 ghost use Rattle.sections.specs.inner.Holding.{held};
 
 use crate::fraction::coefficient;
-use fields::Cursor;
+use crate::header::FittingHeader;
+use fields::Failure;
+use plan::Piece;
 use plan::limits::{PIECES, ROW};
 use plan::methods::coefficients_used;
 use plan::versions::{copy_last, pieces_carried};
-use plan::{Header, Piece};
 use section_fields::{idc, order};
 
-#[derive(Clone, Copy)]
-pub(crate) struct RowRead {
-    pub(crate) list: [i64; ROW],
-    pub(crate) next: Cursor,
-}
-
-#[derive(Clone, Copy)]
-pub(crate) struct PieceRead {
-    pub(crate) piece: Piece,
-    pub(crate) next: Cursor,
-}
-
-#[derive(Clone, Copy)]
-pub(crate) struct PiecesRead {
-    pub(crate) list: [Piece; PIECES],
-    pub(crate) next: Cursor,
-}
-
-fn row(s: &[u8], c: Cursor, h: Header, k: usize, p: usize, idc: u8, count: usize) -> RowRead
-    requires { HeaderFacts h × (count ≤ row_places) }
-    ensures { Reads s.now c (filled row_places (pos 0) count (coefficient h k p idc)) result.list result.next }
+fn row(
+    rest: &mut &[u8],
+    h: FittingHeader,
+    k: usize,
+    p: usize,
+    idc: u8,
+    count: usize,
+) -> Result<[i64; ROW], Failure>
+    requires { count ≤ row_places }
+    ensures { as_read result rest.new.now ≡ filled row_places (pos 0) count (coefficient h.header k p idc) rest.old.now }
 {
-    let mut list = [0i64; ROW];
-    let mut next = c;
-    let mut i: usize = 0;
-    while i < count {
-        let f = coefficient(s, next, h, k, p, idc, i);
-        let x = f.value;
-        list[i] = x;
-        next = f.next;
-        i += 1;
+    let mut row = [0; ROW];
+    for i in 0..count {
+        row[i] = coefficient(rest, h, k, p, idc, i)?;
     }
-    RowRead {
-        list: list,
-        next: next,
-    }
+    Ok(row)
 }
 
-fn piece(s: &[u8], c: Cursor, h: Header, k: usize, p: usize) -> PieceRead
-    requires { HeaderFacts h }
-    ensures { Reads s.now c (piece h k p) result.piece result.next }
+fn piece(rest: &mut &[u8], h: FittingHeader, k: usize, p: usize) -> Result<Piece, Failure>
+    ensures { as_read result rest.new.now ≡ piece h.header k p rest.old.now }
 {
-    let f = idc(s, c, k, p);
-    let c1 = f.next;
-    let m = f.value as u8;
-    let g = order(s, c1, k, p, m);
-    let c2 = g.next;
-    let o = g.value as u8;
-    let r = row(s, c2, h, k, p, m, coefficients_used(m, o));
-    let list = r.list;
-    let c3 = r.next;
-    let q = Piece {
-        idc: m,
-        order: o,
-        row: list,
-    };
-    PieceRead { piece: q, next: c3 }
+    let idc = idc(rest, k, p)?;
+    let order = order(rest, k, p, idc)?;
+    let row = row(rest, h, k, p, idc, coefficients_used(idc, order))?;
+    Ok(Piece { idc, order, row })
 }
 
-fn pieces(s: &[u8], c: Cursor, h: Header, k: usize, count: usize) -> PiecesRead
-    requires { HeaderFacts h × (count ≤ piece_places) }
-    ensures { Reads s.now c (filled piece_places zero_piece count (piece h k)) result.list result.next }
+fn pieces(
+    rest: &mut &[u8],
+    h: FittingHeader,
+    k: usize,
+    count: usize,
+) -> Result<[Piece; PIECES], Failure>
+    requires { count ≤ piece_places }
+    ensures { as_read result rest.new.now ≡ filled piece_places zero_piece count (piece h.header k) rest.old.now }
 {
     let none = Piece {
         idc: 0,
         order: 0,
-        row: [0i64; ROW],
+        row: [0; ROW],
     };
-    let mut list = [none; PIECES];
-    let mut next = c;
-    let mut p: usize = 0;
-    while p < count {
-        let r = piece(s, next, h, k, p);
-        let q = r.piece;
-        list[p] = q;
-        next = r.next;
-        p += 1;
+    let mut pieces = [none; PIECES];
+    for p in 0..count {
+        pieces[p] = piece(rest, h, k, p)?;
     }
-    PiecesRead {
-        list: list,
-        next: next,
-    }
+    Ok(pieces)
 }
 
 // The pieces of a component with num_pivots_minus2 n: those that its section carries, and of version 1 piece n again.
-pub(crate) fn held(s: &[u8], c: Cursor, version: u16, h: Header, k: usize, n: u8) -> PiecesRead
-    requires { HeaderFacts h × (n ≤ most_n) }
-    ensures { Reads s.now c (held version h k n) result.list result.next }
+pub(crate) fn held(
+    rest: &mut &[u8],
+    version: u16,
+    h: FittingHeader,
+    k: usize,
+    n: u8,
+) -> Result<[Piece; PIECES], Failure>
+    requires { n ≤ most_n }
+    ensures { as_read result rest.new.now ≡ held version h.header k n rest.old.now }
 {
-    let r = pieces(s, c, h, k, pieces_carried(version, n));
-    let carried = r.list;
-    let next = r.next;
-    let list = copy_last(version, n, carried);
-    PiecesRead {
-        list: list,
-        next: next,
-    }
+    let carried = pieces(rest, h, k, pieces_carried(version, n))?;
+    Ok(copy_last(version, n, carried))
 }

@@ -1,15 +1,18 @@
 -- `body` meets its contract: the header's tests, and then the sections. Assumes nothing.
-use mathlib.Core.Path.{ap, ◌∙◌}
+use mathlib.Core.Path.{ap, sym, ◌∙◌}
 use Rattle.block.specs.Reading.{sections}
-use Rattle.block.proofs.Cascade.{bad_header, good_header}
+use Rattle.block.proofs.Cascade.{unfit_header, bad_zeros, good_header}
 use Rattle.block.proofs.body.Goals as goal
 
-pub returns-then-not-header_fits-zeros_fit : goal.returns-then-not-header_fits-zeros_fit
-returns-then-not-header_fits-zeros_fit c =
-    c.refused.ensures ∙ rw (c.wrong_column.ensures, c.read_header-h.ensures)
-    (bad_header _ _ _ (rw (c.header_fits.ensures, c.zeros_fit.ensures, c.read_header-h.ensures) at c.if-not-header_fits-zeros_fit.true))
+pub returns-then-zeros_fit : goal.returns-then-zeros_fit
+returns-then-zeros_fit c =
+    c.sections.ensures ∙ ap (sections _ _ _) (c.in-Some.ensures ∙ c.read_header-header.ensures)
+    ∙ good_header _ _ _ (rw (c.in-Some.ensures, c.read_header-header.ensures) at c.in-Some.h.fits) (sym c.zeros_fit.ensures ∙ c.if-zeros_fit.true)
 
-pub returns : goal.returns
-returns c =
-    c.sections.ensures ∙ ap (sections _ _ _) c.read_header-h.ensures
-    ∙ good_header _ _ _ (rw (c.header_fits.ensures, c.zeros_fit.ensures, c.read_header-h.ensures) at c.if-not-header_fits-zeros_fit.false)
+pub returns-else-zeros_fit : goal.returns-else-zeros_fit
+returns-else-zeros_fit c =
+    c.wrong_header.ensures
+    ∙ rw c.read_header-header.ensures (bad_zeros _ _ _ (rw (c.in-Some.ensures, c.read_header-header.ensures) at c.in-Some.h.fits) (sym c.zeros_fit.ensures ∙ c.if-zeros_fit.false))
+
+pub returns-in-None : goal.returns-in-None
+returns-in-None c = c.wrong_header-in-None.ensures ∙ rw c.read_header-header.ensures (unfit_header _ _ _ (rw c.read_header-header.ensures at c.in-None.ensures))

@@ -1,28 +1,21 @@
 -- `sections` meets its contract: a failure is the answer, or else what follows. Assumes nothing.
+use mathlib.Core.Path.{◌∙◌}
 use Rattle.block.specs.Reading.{sections}
-use Rattle.block.proofs.Answers.{stop, go}
+use Rattle.block.proofs.Cascade.{handed_on}
 use Rattle.block.proofs.sections.Goals as goal
 
-pub returns-then-y-ne0 : goal.returns-then-y-ne0
+pub returns-in_err-y : goal.returns-in_err-y
 unfolding sections
-returns-then-y-ne0 c = stop _ _ _ _ 0 c.requires.h_value _ c.part-y.ensures.0 c.if-y-ne0.true c.refused.ensures
+returns-in_err-y c = handed_on _ _ c.from_residual.ensures ∙ c.in_err-y.ensures _
 
-pub returns-then-cb-ne0 : goal.returns-then-cb-ne0
+pub returns-in_err-cb : goal.returns-in_err-cb
 unfolding sections
-returns-then-cb-ne0 c =
-    go _ _ _ _ 0 c.requires.h_value _ c.part-y.ensures.0 c.if-y-ne0.false
-    (stop _ _ _ _ 1 c.requires.h_value _ c.part-cb.ensures.0 c.if-cb-ne0.true c.refused-then-cb-ne0.ensures)
+returns-in_err-cb c = handed_on _ _ c.from_residual-in_err-cb.ensures ∙ c.in_err-cb.ensures _ ∙ c.in_ok-y.ensures _
 
-pub returns-then-cr-ne0 : goal.returns-then-cr-ne0
+pub returns-in_err-cr : goal.returns-in_err-cr
 unfolding sections
-returns-then-cr-ne0 c =
-    go _ _ _ _ 0 c.requires.h_value _ c.part-y.ensures.0 c.if-y-ne0.false
-    (go _ _ _ _ 1 c.requires.h_value _ c.part-cb.ensures.0 c.if-cb-ne0.false
-    (stop _ _ _ _ 2 c.requires.h_value _ c.part-cr.ensures.0 c.if-cr-ne0.true c.refused-then-cr-ne0.ensures))
+returns-in_err-cr c = handed_on _ _ c.from_residual-in_err-cr.ensures ∙ c.in_err-cr.ensures _ ∙ c.in_ok-cb.ensures _ ∙ c.in_ok-y.ensures _
 
 pub returns : goal.returns
 unfolding sections
-returns c =
-    go _ _ _ _ 0 c.requires.h_value _ c.part-y.ensures.0 c.if-y-ne0.false
-    (go _ _ _ _ 1 c.requires.h_value _ c.part-cb.ensures.0 c.if-cb-ne0.false
-    (go _ _ _ _ 2 c.requires.h_value _ c.part-cr.ensures.0 c.if-cr-ne0.false (rw c.nameless-none.ensures)))
+returns c = c.in_ok-cr.ensures _ ∙ c.in_ok-cb.ensures _ ∙ c.in_ok-y.ensures _

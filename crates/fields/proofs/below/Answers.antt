@@ -1,11 +1,18 @@
-use native.Mathlib.Nat.{le_of_lt}
+-- `below` meets its contract: what is judged is what was read. Assumes nothing.
+use mathlib.Core.Path.{◌∙◌}
 use native.Mathlib.Omega.{arith}
-use Prim.Native.Nat.{◌≤◌}
 use lib.Dec.{ltb}
-use borrow.Author.Tests.{ltb-true}
-use Rattle.fields.proofs.Stepping.{settled}
+use borrow.Author.Tests.{le-ltb, lt-ltb}
+use Rattle.refusals.specs.Refusals.{number_of}
+use Rattle.fields.proofs.Following.{handed_on}
+use Rattle.fields.proofs.Stepping.{fails, judged}
 use Rattle.fields.proofs.below.Goals as goal
 
--- `below` meets its contract. Assumes nothing.
-pub returns : goal.returns
-returns c = let r = settled _ _ _ (λ v. ltb v c.args.limit) (λ v. c.args.k) (λ v. v ≤ c.args.limit) (omega arith) (λ v e. le_of_lt (ltb-true _ _ e)) c.raw-f.ensures.value c.judged.ensures in record { value = r.0; small = r.1 }
+pub returns-in_err-v-clause-value : goal.returns-in_err-v-clause-value
+returns-in_err-v-clause-value c = handed_on _ _ _ c.from_residual.ensures ∙ fails _ (λ v. ltb v c.args.limit) (λ v. number_of c.args.refusal) _ c.in_err-v.ensures
+
+pub returns-then-v-limit-clause-value : goal.returns-then-v-limit-clause-value
+returns-then-v-limit-clause-value c = rw (le-ltb c.in_ok-v.v c.args.limit (omega arith)) at (judged _ (λ v. ltb v c.args.limit) (λ v. number_of c.args.refusal) _ c.in_ok-v.ensures)
+
+pub returns-clause-value : goal.returns-clause-value
+returns-clause-value c = rw (lt-ltb c.in_ok-v.v c.args.limit (omega arith)) at (judged _ (λ v. ltb v c.args.limit) (λ v. number_of c.args.refusal) _ c.in_ok-v.ensures)

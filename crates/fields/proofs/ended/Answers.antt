@@ -1,11 +1,11 @@
-use borrow.Author.Tests.{lt-ltb, le-ltb}
+-- `ended` meets its contract. Assumes nothing.
+use mathlib.Core.Path.{sym}
+use borrow.Author.Tests.{eqb-true, eqb-false}
+use Rattle.fields.proofs.Stepping.{none_left, some_left}
 use Rattle.fields.proofs.ended.Goals as goal
 
--- `ended` meets its contract. Assumes nothing.
-pub returns-then-at-s : goal.returns-then-at-s
-returns-then-at-s c =
-    rw (c.if-c.false, lt-ltb _ _ c.if-at-s.true)
+pub returns-then-is_empty : goal.returns-then-is_empty
+returns-then-is_empty c = none_left _ _ _ _ (eqb-true _ 0 (sym c.if-is_empty.ensures))
 
-pub returns : goal.returns
-returns c =
-    rw (c.if-c.false, le-ltb _ _ c.if-at-s.false)
+pub returns-else-is_empty : goal.returns-else-is_empty
+returns-else-is_empty c = some_left _ _ _ _ (eqb-false _ 0 (sym c.if-is_empty.ensures))

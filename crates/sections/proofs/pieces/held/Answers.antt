@@ -4,4 +4,4 @@ use Rattle.sections.proofs.pieces.held.Goals as goal
 
 pub returns : goal.returns
 returns c =
-    made_held _ _ c.args.version c.args.n c.requires.1 (rw c.pieces_carried.ensures.is at c.pieces-r.ensures) c.copy_last-list.ensures
+    made_held _ _ c.args.version c.args.n _ c.requires (rw c.pieces_carried.ensures.is at c.in_ok-carried.ensures) c.copy_last.ensures
