@@ -5,7 +5,7 @@ use crate::storing::store_block;
 use files::Word;
 use plan::Plan;
 use plan_text::{line_of, make, version_of};
-use saying::{Said, read_block, say, say_unread, say_word};
+use saying::{Said, need_readable, read_block, say, say_word};
 use writer::{Writing, write};
 
 // Writes the plan, which reading gave, to a file. No such plan is refused, and no block is longer than the room.
@@ -27,20 +27,16 @@ fn write_plan(plan: Plan, version: u16, output: Word) -> Result<(), Said> {
 
 // The bytes that were made of the text.
 fn write_bytes(text: Word, bytes: &[u8], output: Word) -> Result<(), Said> {
-    match read_block(bytes) {
-        Ok(plan) => write_plan(plan, version_of(bytes), output),
-        Err(refused) => {
-            let line = line_of(bytes, refused.first_byte());
-            Err(refused.say_line(text, line, bytes))
-        }
-    }
+    let plan = read_block(bytes).map_err(|refused| {
+        let line = line_of(bytes, refused.first_byte());
+        refused.say_line(text, line, bytes)
+    })?;
+    write_plan(plan, version_of(bytes), output)
 }
 
 // Makes the block of a text; says why, where nothing was written.
 pub(crate) fn make_block(text: Word, output: Word) -> Result<(), Said> {
-    if !text.is_readable() {
-        return Err(say_unread(text));
-    }
+    need_readable(text)?;
     let length = text.file_length();
     if TEXT_ROOM < length {
         say_word(text);

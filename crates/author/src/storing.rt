@@ -25,20 +25,13 @@ fn finish(output: Word, length: usize) -> IoResult<()> {
 
 // Writes the block to a file; says why, where it cannot be written.
 pub(crate) fn store_block(output: Word, block: &[u8]) -> Result<(), Said> {
-    let file = match output.create_beside() {
-        Ok(file) => file,
-        Err(error) => return Err(say_unwritten(output, &error)),
-    };
-    let stored = match keep(file, block) {
-        Ok(()) => finish(output, block.len()),
-        Err(error) => Err(error),
-    };
-    match stored {
-        Ok(()) => Ok(()),
-        Err(error) => {
-            let said = say_unwritten(output, &error);
-            output.remove_beside();
-            Err(said)
-        }
-    }
+    let created = output.create_beside();
+    let file = created.map_err(|error| say_unwritten(output, &error))?;
+    let kept = keep(file, block);
+    let stored = kept.and_then(|()| finish(output, block.len()));
+    stored.map_err(|error| {
+        let said = say_unwritten(output, &error);
+        output.remove_beside();
+        said
+    })
 }

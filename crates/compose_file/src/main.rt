@@ -20,10 +20,9 @@ fn compose_group(names: Names, way: Way) -> Result<(), Said> {
     if bytes.is_empty() && !names.block.is_readable() {
         return Err(say_unread(names.block));
     }
-    match read_block(bytes) {
-        Ok(plan) => compose_plan(names, way, &plan),
-        Err(refused) => Err(refused.say(names.block, bytes)),
-    }
+    let reading = read_block(bytes);
+    let plan = reading.map_err(|refused| refused.say(names.block, bytes))?;
+    compose_plan(names, way, &plan)
 }
 
 fn main(rt: HostRuntime) {

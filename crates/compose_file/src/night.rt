@@ -1,8 +1,8 @@
 // The jobs of one band, which is opened as a picture of its own height. With --standby or --late each of them is said.
 use jobs::{Answer, Opened, compose_job, is_complete, number, open_picture};
+use picture_files::RefusedJob;
 use picture_files::bands::Band;
 use picture_files::opened::Files;
-use picture_files::say_job_refused;
 use picture_files::schedule::{Named, Way};
 use plan::Plan;
 use saying::{Said, rule_of, say};
@@ -101,9 +101,16 @@ impl Task<'_> {
             runs.marks,
         );
         if let Some(rule) = rule_of(number(answer)) {
-            let names = self.files.names;
-            let h = self.plan.header;
-            return Err(say_job_refused(names, self.band, h, rule, job.named, runs.base, brought));
+            let files = self.files;
+            let job = RefusedJob {
+                names: files.names,
+                header: self.plan.header,
+                band: self.band,
+                named: job.named,
+                base: runs.base,
+                enhancement: brought,
+            };
+            return Err(job.say(rule));
         }
         if self.files.way.is_said() {
             say_done(self.rt(), job, answer);

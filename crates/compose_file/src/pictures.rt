@@ -1,8 +1,6 @@
 // All bands of all pictures that the four words name.
-ghost use Rattle.std.specs.Prelude.{◌<◌, ◌≤◌};
-
 use crate::night::{Runs, State, Task};
-use picture_files::bands::{BAND, Band, band_of};
+use picture_files::bands::{BAND, Band, pairs_in_band};
 use picture_files::names::Names;
 use picture_files::opened::Files;
 use picture_files::progress::{end_progress, say_progress};
@@ -85,9 +83,10 @@ fn compose_picture(plan: &Plan, files: &Files, picture: usize, start: usize) -> 
     };
     let columns = plan.header.columns;
     let pairs = plan.header.pairs;
-    let mut first: u16 = 0;
-    while first < pairs {
-        let count = band_of(columns, pairs - first);
+    let most = pairs_in_band(columns);
+    for first in (0..pairs).step_by(usize::from(most)) {
+        let left = pairs.saturating_sub(first);
+        let count = left.min(most);
         let band = Band {
             picture,
             start,
@@ -102,13 +101,8 @@ fn compose_picture(plan: &Plan, files: &Files, picture: usize, start: usize) -> 
             plan: &of_height(plan, count),
         };
         task.compose(&mut room)?;
-        first += count;
-        say_progress(
-            files.names.output.rt,
-            picture,
-            files.pictures,
-            pairs - first,
-        );
+        let rest = left.saturating_sub(count);
+        say_progress(files.names.output.rt, picture, files.pictures, rest);
     }
     Ok(())
 }

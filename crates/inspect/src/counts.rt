@@ -2,8 +2,17 @@
 // and the orders are small enough; for other numbers there are none.
 use plan::methods::{MMR, coefficients_used};
 use plan::versions::pieces_carried;
-use plan::{Component, Piece};
+use plan::{Component, Piece, Plan};
+use saying::Plane;
 use std::fmt;
+
+pub(crate) fn component_of(plan: &Plan, plane: Plane) -> &Component {
+    match plane {
+        Plane::Y => &plan.y,
+        Plane::Cb => &plan.cb,
+        Plane::Cr => &plan.cr,
+    }
+}
 
 // The pieces that a section of this version carries.
 pub(crate) fn pieces_of(c: &Component, version: u16) -> &[Piece] {

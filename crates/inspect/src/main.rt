@@ -11,28 +11,19 @@ mod plot; // the picture of the mappings
 use files::{BLOCK_ROOM, Word, word_count};
 use list::list_block;
 use plot::plot_block;
-use saying::{LastBytes, Said, read_block, say, say_rules, say_unread};
+use saying::{LastBytes, Said, read_file, say, say_rules};
 
-// Shows the block of a file, from its last bytes; says why, where there is none. An empty file can be read, and is
-// refused as a block.
+// Shows the block of a file; says why, where there is none.
 fn show_file(word: Word, plotted: bool) -> Result<(), Said> {
-    if !word.is_readable() {
-        return Err(say_unread(word));
-    }
     let mut room = [0u8; BLOCK_ROOM];
-    let bytes = word.last_bytes(&mut room);
-    match read_block(bytes) {
-        Ok(plan) => {
-            let last = LastBytes::of(word, bytes);
-            if plotted {
-                plot_block(word.rt, last.trailer().version, &plan);
-            } else {
-                list_block(word, last, &plan);
-            }
-            Ok(())
-        }
-        Err(refused) => Err(refused.say(word, bytes)),
+    let (plan, bytes) = read_file(word, &mut room)?;
+    let last = LastBytes::of(word, bytes);
+    if plotted {
+        plot_block(word.rt, last.trailer().version, &plan);
+    } else {
+        list_block(word, last, &plan);
     }
+    Ok(())
 }
 
 // Answers a word, which is a block to be plotted where the one before it was --plot; whether it is --plot itself.

@@ -5,12 +5,12 @@
 // there are 256 codes, and a mapped sample v stands v units above the panel's lower edge.
 ghost use Rattle.std.specs.Prelude.{◌≤◌};
 
-use crate::counts::{Pivots, has_mmr, pieces_of, preds_of};
+use crate::counts::{Pivots, component_of, has_mmr, pieces_of, preds_of};
 use crate::markup::{AXES, END, GRID, PANEL, START};
 use mapping::mapped_table;
 use mmr::slice::slice_table;
-use plan::{Component, Plan};
-use saying::say;
+use plan::Plan;
+use saying::{Plane, say};
 use std::fmt;
 
 const PANEL_WIDTH: u32 = 262144;
@@ -156,82 +156,49 @@ impl fmt::Display for Pieces<'_> {
     }
 }
 
-// The panel of a component.
-#[derive(Clone, Copy, Debug, PartialEq, Eq)]
-enum Panel {
-    Y,
-    Cb,
-    Cr,
-}
-
-impl fmt::Display for Panel {
-    fn fmt<W: fmt::Write>(&self, f: &mut fmt::Formatter<W>) -> fmt::Result {
-        f.write_str(match self {
-            Panel::Y => "Y",
-            Panel::Cb => "Cb",
-            Panel::Cr => "Cr",
-        })
+// What each code comes to. Of a chroma component without MMR pieces a slice is the mapping itself.
+fn table_of(plan: &Plan, plane: Plane) -> [u16; 1024] {
+    match plane {
+        Plane::Y => mapped_table(plan.header, plan.y).table,
+        Plane::Cb => slice_table(*plan, false),
+        Plane::Cr => slice_table(*plan, true),
     }
 }
 
-impl Panel {
-    // Where it begins in the picture.
-    fn top(self) -> u16 {
-        match self {
-            Panel::Y => 58,
-            Panel::Cb => 356,
-            Panel::Cr => 654,
-        }
+// Plots the panel of a component, so far below the picture's upper edge. Where it is a slice, the other chroma component
+// is held at the middle code.
+fn plot_panel(rt: &HostRuntime, top: u16, plane: Plane, other: Plane, version: u16, plan: &Plan) {
+    let c = component_of(plan, plane);
+    let table = table_of(plan, plane);
+    let depth = Depth::of(plan);
+    let curve = Curve {
+        table: &table,
+        depth,
+    };
+    let last = depth.last_code();
+    let (least, greatest) = curve.ends();
+    let preds = preds_of(c);
+    let count = pieces_of(c, version).len();
+    let pieces = Pieces {
+        preds,
+        count,
+        depth,
+    };
+    say!(rt; "<g transform=\"translate(70 {top})\"><text class=\"t\" y=\"-28\">{plane}: pieces {count}");
+    say!(rt; ", codes 0 to {last}, mapped samples {least} to {greatest}");
+    if has_mmr(c) {
+        say!(rt; ", luma and {other} at {}", last / 2 + 1);
     }
-
-    // The chroma component that is held where this one is a slice.
-    fn other(self) -> Panel {
-        match self {
-            Panel::Cr => Panel::Cb,
-            _ => Panel::Cr,
-        }
-    }
-
-    // What each code comes to. Of a chroma component without MMR pieces a slice is the mapping itself.
-    fn table(self, plan: &Plan) -> [u16; 1024] {
-        match self {
-            Panel::Y => mapped_table(plan.header, plan.y).table,
-            _ => slice_table(*plan, self == Panel::Cr),
-        }
-    }
-
-    fn plot(self, rt: &HostRuntime, version: u16, plan: &Plan, c: &Component) {
-        let depth = Depth::of(plan);
-        let table = self.table(plan);
-        let curve = Curve {
-            table: &table,
-            depth,
-        };
-        let last = depth.last_code();
-        let (least, greatest) = curve.ends();
-        let preds = preds_of(c);
-        let count = pieces_of(c, version).len();
-        let pieces = Pieces {
-            preds,
-            count,
-            depth,
-        };
-        say!(rt; "<g transform=\"translate(70 {})\"><text class=\"t\" y=\"-28\">", self.top());
-        say!(rt; "{self}: pieces {count}, codes 0 to {last}, mapped samples {least} to {greatest}");
-        if has_mmr(c) {
-            say!(rt; ", luma and {} at {}", self.other(), last / 2 + 1);
-        }
-        say!(rt; "</text><text y=\"-9\">pivots{}\n{PANEL}", Pivots(preds));
-        say!(rt; "{pieces}{GRID}<path class=\"v\" d=\"M{curve}\"/>");
-        say!(rt; "<path class=\"x\" d=\"{}\"/>{AXES}{last}</text></g>\n", Cut(curve));
-    }
+    say!(rt; "</text><text y=\"-9\">pivots{}\n{PANEL}", Pivots(preds));
+    say!(rt; "{pieces}{GRID}<path class=\"v\" d=\"M{curve}\"/>");
+    say!(rt; "<path class=\"x\" d=\"{}\"/>{AXES}{last}</text></g>\n", Cut(curve));
 }
 
-// The picture of a plan's block, of this version.
+// The picture of a plan's block, of this version. Luma has no MMR pieces.
 pub(crate) fn plot_block(rt: &HostRuntime, version: u16, plan: &Plan) {
     say!(rt; "{START}");
-    Panel::Y.plot(rt, version, plan, &plan.y);
-    Panel::Cb.plot(rt, version, plan, &plan.cb);
-    Panel::Cr.plot(rt, version, plan, &plan.cr);
+    plot_panel(rt, 58, Plane::Y, Plane::Cr, version, plan);
+    plot_panel(rt, 356, Plane::Cb, Plane::Cr, version, plan);
+    plot_panel(rt, 654, Plane::Cr, Plane::Cb, version, plan);
     say!(rt; "{END}");
 }

@@ -1,7 +1,7 @@
 // A picture is composed band by band, each a picture of its own height: a sample depends on its own row pair only. So
 // any picture goes through a small memory, and a band is read from and written to its places in the planes of the
 // file.
-ghost use Rattle.std.specs.Prelude.{◌<◌, ◌≤◌};
+ghost use Rattle.std.specs.Prelude.{◌<◌};
 
 use picture::chroma_size;
 use std::fs::File;
@@ -13,12 +13,11 @@ pub const BAND: usize = 98304;
 // Of these a sixth are Cb's.
 const CHROMA: u16 = (BAND / 6) as u16;
 
-// How many row pairs the next band has, of those that are left: as many as fit, at least one.
-pub fn band_of(columns: u16, left: u16) -> u16
-    ensures { (0 < left → 0 < result) × (result ≤ left) }
+// How many row pairs of so many columns fit in a band; at least one.
+pub fn pairs_in_band(columns: u16) -> u16
+    ensures { 0 < result }
 {
-    let fitting = CHROMA.checked_div(columns).unwrap_or(1).max(1);
-    left.min(fitting)
+    CHROMA.checked_div(columns).unwrap_or(1).max(1)
 }
 
 // Row pairs of a picture, whose first byte in the file is `start`.

@@ -9,4 +9,4 @@ pub mod progress; // how far the work is
 mod sample; // which sample of a refused job is too large
 pub mod schedule; // which row pairs the jobs of a band name, and which jobs go without the enhancement
 
-pub use sample::say_job_refused;
+pub use sample::RefusedJob;

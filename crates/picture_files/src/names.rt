@@ -3,7 +3,7 @@ use files::Word;
 use picture::chroma_size;
 use plan::Header;
 use refusals::Refusal;
-use saying::{Said, advice_of, say, say_refused, say_unread, say_word};
+use saying::{Said, advice_of, need_readable, say, say_refused, say_word};
 use std::fmt;
 use std::io::Error;
 
@@ -18,9 +18,7 @@ pub struct Names<'a> {
 impl Names<'_> {
     // How many pictures of so many bytes the base holds; says why, where it cannot be read or holds other pictures.
     pub(crate) fn pictures(self, size: usize) -> Result<usize, Said> {
-        if !self.base.is_readable() {
-            return Err(say_unread(self.base));
-        }
+        need_readable(self.base)?;
         let length = self.base.file_length();
         match exactly(length, size) {
             Some(pictures) => Ok(pictures),
@@ -36,9 +34,7 @@ impl Names<'_> {
     // That the enhancement can be read and is as long as the base; says why where not.
     pub(crate) fn enhancement_fits(self) -> Result<(), Said> {
         let length = self.base.file_length();
-        if !self.enhancement.is_readable() {
-            return Err(say_unread(self.enhancement));
-        }
+        need_readable(self.enhancement)?;
         let found = self.enhancement.file_length();
         if found != length {
             return Err(say_run(self.enhancement, found, length, ", as the base has"));

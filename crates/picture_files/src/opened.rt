@@ -59,22 +59,21 @@ impl<'a> Files<'a> {
             names.enhancement_fits()?;
         }
         say_task(names.output.rt, h, pictures, enhanced);
-        match names.output.create_beside() {
-            Ok(output) => Ok(Files {
-                names,
-                way,
-                pictures,
-                size,
-                base: Source::open(names.base),
-                enhancement: if enhanced {
-                    Source::open(names.enhancement)
-                } else {
-                    Source::Unused
-                },
-                output,
-            }),
-            Err(error) => Err(names.say_unwritten(&error)),
-        }
+        let created = names.output.create_beside();
+        let output = created.map_err(|error| names.say_unwritten(&error))?;
+        Ok(Files {
+            names,
+            way,
+            pictures,
+            size,
+            base: Source::open(names.base),
+            enhancement: if enhanced {
+                Source::open(names.enhancement)
+            } else {
+                Source::Unused
+            },
+            output,
+        })
     }
 
     // Whether an enhancement is used.
@@ -95,10 +94,8 @@ impl<'a> Files<'a> {
 
     // Stores the band; says why, where it cannot be written.
     fn store_there(&self, band: Band, output: &[u16]) -> Result<(), Said> {
-        match band.store(&self.output, output) {
-            Ok(()) => Ok(()),
-            Err(error) => Err(self.names.say_unwritten(&error)),
-        }
+        let stored = band.store(&self.output, output);
+        stored.map_err(|error| self.names.say_unwritten(&error))
     }
 
     // Stores a late group's band as it is before the enhancement comes: in the first of the picture's two.
@@ -126,20 +123,17 @@ impl<'a> Files<'a> {
     // Closes the files, once all that was written has reached the disk, where it is whole; says why where it has not.
     fn keep(self, composed: Result<(), Said>) -> Result<(), Said> {
         composed?;
-        match self.output.sync_data() {
-            Ok(()) => Ok(()),
-            Err(error) => Err(self.names.say_unwritten(&error)),
-        }
+        let names = self.names;
+        let kept = self.output.sync_data();
+        kept.map_err(|error| names.say_unwritten(&error))
     }
 
     // Closes the files, and moves what was written into place, or removes it where it is not whole.
     pub fn close(self, composed: Result<(), Said>) -> Result<(), Said> {
         let names = self.names;
         let pictures = self.pictures_out();
-        let closed = match self.keep(composed) {
-            Ok(()) => finish(names, pictures),
-            Err(said) => Err(said),
-        };
+        let kept = self.keep(composed);
+        let closed = kept.and_then(|()| finish(names, pictures));
         if closed.is_err() {
             names.output.remove_beside();
         }
@@ -156,9 +150,8 @@ fn twice(n: usize) -> usize {
 fn finish(names: Names, pictures: Pictures) -> Result<(), Said> {
     let output = names.output;
     let sum = output.sum_beside();
-    if let Err(error) = output.move_into_place() {
-        return Err(names.say_unwritten(&error));
-    }
+    let moved = output.move_into_place();
+    moved.map_err(|error| names.say_unwritten(&error))?;
     say_word(output);
     say!(output.rt; ": {pictures}, Adler-32 {sum}\n");
     Ok(())

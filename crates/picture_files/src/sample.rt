@@ -6,25 +6,7 @@ use files::Word;
 use picture::chroma_size;
 use plan::Header;
 use refusals::Refusal;
-use saying::{Said, advice_of, say, say_refused};
-use std::fmt;
-
-#[derive(Clone, Copy, Debug, PartialEq, Eq)]
-enum Plane {
-    Y,
-    Cb,
-    Cr,
-}
-
-impl fmt::Display for Plane {
-    fn fmt<W: fmt::Write>(&self, f: &mut fmt::Formatter<W>) -> fmt::Result {
-        f.write_str(match self {
-            Plane::Y => "Y",
-            Plane::Cb => "Cb",
-            Plane::Cr => "Cr",
-        })
-    }
-}
+use saying::{Plane, Said, advice_of, say, say_refused};
 
 // The samples of a plane that a job names: where they begin and end in the band's run, how wide a row is, how many rows
 // of the picture stand before the run's first, and where the plane begins in the run.
@@ -39,10 +21,10 @@ struct Part {
 
 impl Part {
     // Y has four samples for each of Cb's.
-    fn of(plane: Plane, band: Band, job: Named) -> Part {
+    fn of(plane: Plane, band: Band, named: Named) -> Part {
         let n = chroma_size(band.columns, band.count);
-        let before = chroma_size(band.columns, job.first);
-        let named = chroma_size(band.columns, job.count);
+        let before = chroma_size(band.columns, named.first);
+        let count = chroma_size(band.columns, named.count);
         let (size, doubled, origin) = match plane {
             Plane::Y => (4, 2, 0),
             Plane::Cb => (1, 1, 4 * n),
@@ -51,7 +33,7 @@ impl Part {
         let from = origin + size * before;
         Part {
             from,
-            to: from + size * named,
+            to: from + size * count,
             width: chroma_size(band.columns, doubled),
             above: chroma_size(band.first, doubled),
             origin,
@@ -68,10 +50,30 @@ struct Large {
     sample: u16,
 }
 
-impl Large {
-    // The first one of the plane that the job names, where there is one.
-    fn in_plane(plane: Plane, band: Band, job: Named, limit: u16, run: &[u16]) -> Option<Large> {
-        let part = Part::of(plane, band, job);
+// A job that is refused: the row pairs that it names of a band, and the runs that it brings.
+#[derive(Clone, Copy)]
+pub struct RefusedJob<'a> {
+    pub names: Names<'a>,
+    pub header: Header,
+    pub band: Band,
+    pub named: Named,
+    pub base: &'a [u16],
+    pub enhancement: &'a [u16],
+}
+
+impl RefusedJob<'_> {
+    // What samples are to be less than.
+    fn limit(self) -> u16 {
+        match self.header.bl {
+            0 => 256,
+            _ => 1024,
+        }
+    }
+
+    // The first sample of a plane that is too large, of those that the job names of a run.
+    fn large_in(self, plane: Plane, run: &[u16]) -> Option<Large> {
+        let limit = self.limit();
+        let part = Part::of(plane, self.band, self.named);
         let named = run.get(part.from..part.to.min(run.len()))?;
         let k = named.iter().position(|sample| limit <= *sample)?;
         let behind = part.from.wrapping_add(k).wrapping_sub(part.origin);
@@ -83,51 +85,48 @@ impl Large {
         })
     }
 
-    // The first one that the job names, where there is one.
-    fn first(band: Band, job: Named, limit: u16, run: &[u16]) -> Option<Large> {
-        for plane in [Plane::Y, Plane::Cb, Plane::Cr] {
-            if let Some(large) = Large::in_plane(plane, band, job, limit, run) {
+    // The first one of all planes.
+    fn first_large(self, run: &[u16]) -> Option<Large> {
+        for plane in Plane::ALL {
+            if let Some(large) = self.large_in(plane, run) {
                 return Some(large);
             }
         }
         None
     }
 
-    fn say(self, word: Word, band: Band, limit: u16) -> Said {
+    // Says the sample that is too large in one file.
+    fn say_large(self, word: Word, large: Large) -> Said {
         let Large {
             plane,
             row,
             column,
             sample,
-        } = self;
-        let picture = band.picture;
+        } = large;
         let rule = Refusal::Sample;
+        let picture = self.band.picture;
         say_refused(word, rule);
         say!(word.rt; ": picture {picture}, {plane} row {row} column {column} is {sample}");
-        say!(word.rt; ", allowed less than {limit}; {}\n", advice_of(rule));
+        say!(word.rt; ", allowed less than {}; {}\n", self.limit(), advice_of(rule));
         Said
     }
-}
 
-// Why a job is refused. No rule but that of a sample can come of files whose lengths were tested and jobs that name the
-// band's own row pairs.
-pub fn say_job_refused(
-    names: Names,
-    band: Band,
-    h: Header,
-    rule: Refusal,
-    job: Named,
-    base: &[u16],
-    enhancement: &[u16],
-) -> Said {
-    let limit = if h.bl == 0 { 256 } else { 1024 };
-    if rule != Refusal::Sample {
-        say_refused(names.base, rule);
-        say!(names.base.rt; "; {}\n", advice_of(rule));
-    } else if let Some(large) = Large::first(band, job, limit, base) {
-        large.say(names.base, band, limit);
-    } else if let Some(large) = Large::first(band, job, limit, enhancement) {
-        large.say(names.enhancement, band, limit);
+    // Says why. No rule but that of a sample can come of files whose lengths were tested and jobs that name the band's own
+    // row pairs.
+    pub fn say(self, rule: Refusal) -> Said {
+        let Names {
+            base,
+            enhancement,
+            ..
+        } = self.names;
+        if rule != Refusal::Sample {
+            say_refused(base, rule);
+            say!(base.rt; "; {}\n", advice_of(rule));
+        } else if let Some(large) = self.first_large(self.base) {
+            self.say_large(base, large);
+        } else if let Some(large) = self.first_large(self.enhancement) {
+            self.say_large(enhancement, large);
+        }
+        Said
     }
-    Said
 }

@@ -2,7 +2,7 @@
 use crate::{Said, say, say_word};
 use files::Word;
 use std::fmt;
-use std::io::{Error, Result};
+use std::io::{Error, Result as IoResult};
 use std::os::unix::fs::FileExt;
 
 // An error by the number that the system gives it (errno).
@@ -49,7 +49,7 @@ impl fmt::Display for Cause {
 }
 
 // Reads the first byte of the file again. A pipe has none, and is not waited for.
-fn read_first(word: Word) -> Result<usize> {
+fn read_first(word: Word) -> IoResult<usize> {
     word.open()?.read_at(&mut [0u8; 1], 0)
 }
 
@@ -62,6 +62,15 @@ pub fn say_unread(word: Word) -> Said {
     say_word(word);
     say!(word.rt; ": cannot be read: {cause}\n");
     Said
+}
+
+// That the file can be read; says why, where it cannot.
+pub fn need_readable(word: Word) -> Result<(), Said> {
+    if word.is_readable() {
+        Ok(())
+    } else {
+        Err(say_unread(word))
+    }
 }
 
 // Why the file that the word names cannot be written, by the error of the call that failed; `program` writes it.

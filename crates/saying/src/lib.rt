@@ -9,12 +9,12 @@ mod parts; // where the parts of a block stand in its file
 mod reading; // a block that is read, and the line about one that is refused
 mod rules; // the rules' names, and what to do about each
 
-pub use errors::{say_unread, say_unwritten};
+pub use errors::{need_readable, say_unread, say_unwritten};
 pub use field::MmrIndices;
 use files::{WORD_ROOM, Word};
 pub use numbers::Fixed;
-pub use parts::{LastBytes, Part};
-pub use reading::{Refused, read_block};
+pub use parts::{LastBytes, Part, Plane};
+pub use reading::{Refused, read_block, read_file};
 pub use rules::{advice_of, rule_of, say_refused, say_rules};
 
 // Says a format. Where it cannot be written there is nobody to tell.

@@ -5,23 +5,46 @@ use frame::{Trailer, read_trailer};
 use std::fmt;
 
 #[derive(Clone, Copy, Debug, PartialEq, Eq)]
-pub enum Part {
-    Header,
+pub enum Plane {
     Y,
     Cb,
     Cr,
+}
+
+impl Plane {
+    pub const ALL: [Plane; 3] = [Plane::Y, Plane::Cb, Plane::Cr];
+
+    // The plane whose section has this number.
+    pub(crate) fn of_section(number: usize) -> Option<Plane> {
+        Plane::ALL.get(number).copied()
+    }
+}
+
+impl fmt::Display for Plane {
+    fn fmt<W: fmt::Write>(&self, f: &mut fmt::Formatter<W>) -> fmt::Result {
+        f.write_str(match self {
+            Plane::Y => "Y",
+            Plane::Cb => "Cb",
+            Plane::Cr => "Cr",
+        })
+    }
+}
+
+// A part of a block: a section for each plane stands between header and trailer.
+#[derive(Clone, Copy, Debug, PartialEq, Eq)]
+pub enum Part {
+    Header,
+    Section(Plane),
     Trailer,
 }
 
 impl fmt::Display for Part {
     fn fmt<W: fmt::Write>(&self, f: &mut fmt::Formatter<W>) -> fmt::Result {
-        f.write_str(match self {
-            Part::Header => "header",
-            Part::Y => "section 0, Y,",
-            Part::Cb => "section 1, Cb,",
-            Part::Cr => "section 2, Cr,",
-            Part::Trailer => "trailer",
-        })
+        match *self {
+            Part::Header => f.write_str("header"),
+            Part::Section(plane) => write!(f, "section {}, {plane},", plane as usize),
+            Part::Trailer => f.write_str("trailer"),
+        }
     }
 }
 
@@ -60,12 +83,21 @@ impl<'a> LastBytes<'a> {
         let trailer = self.trailer();
         let distance = match part {
             Part::Header => trailer.a,
-            Part::Y => trailer.d0,
-            Part::Cb => trailer.d1,
-            Part::Cr => trailer.d2,
+            Part::Section(Plane::Y) => trailer.d0,
+            Part::Section(Plane::Cb) => trailer.d1,
+            Part::Section(Plane::Cr) => trailer.d2,
             Part::Trailer => 0,
         };
         self.trailer_at().saturating_sub(usize::from(distance))
+    }
+
+    // Where the section of a plane ends, which is where the next part begins.
+    pub(crate) fn end_of(self, plane: Plane) -> usize {
+        self.begin_of(match plane {
+            Plane::Y => Part::Section(Plane::Cb),
+            Plane::Cb => Part::Section(Plane::Cr),
+            Plane::Cr => Part::Trailer,
+        })
     }
 
     // The block alone, from its header on, of bytes that reading accepts.

@@ -1,8 +1,9 @@
 // A block that is read, and the line about one that is refused: the rule, where its failure was met, what was found
 // there and what is allowed.
+use crate::errors::need_readable;
 use crate::field::Found;
 use crate::header::{Column, place_of};
-use crate::parts::{LastBytes, Part};
+use crate::parts::{LastBytes, Part, Plane};
 use crate::rules::{advice_of, name_of, rule_of, say_refused};
 use crate::{Said, say, say_word};
 use fields::Name;
@@ -29,6 +30,17 @@ pub fn read_block(bytes: &[u8]) -> Result<Plan, Refused> {
             place: reading.place,
             field: reading.field,
         }),
+    }
+}
+
+// The plan of the block that a file is, and its last bytes, in this room; says why, where there is none. An empty file
+// can be read, and is refused as a block.
+pub fn read_file<'r>(word: Word, room: &'r mut [u8]) -> Result<(Plan, &'r [u8]), Said> {
+    need_readable(word)?;
+    let bytes = word.last_bytes(room);
+    match read_block(bytes) {
+        Ok(plan) => Ok((plan, bytes)),
+        Err(refused) => Err(refused.say(word, bytes)),
     }
 }
 
@@ -137,7 +149,7 @@ impl fmt::Display for Wrong<'_> {
     }
 }
 
-// Rule 3, in a section.
+// Rule 3, in the section of this number.
 #[derive(Clone, Copy)]
 struct Section<'a> {
     number: usize,
@@ -146,16 +158,12 @@ struct Section<'a> {
 
 impl fmt::Display for Section<'_> {
     fn fmt<W: fmt::Write>(&self, f: &mut fmt::Formatter<W>) -> fmt::Result {
-        let number = self.number;
-        let last = self.last;
-        let (part, next) = match number {
-            0 => (Part::Y, Part::Cb),
-            1 => (Part::Cb, Part::Cr),
-            2 => (Part::Cr, Part::Trailer),
-            _ => return Ok(()),
+        let Section { number, last } = *self;
+        let Some(plane) = Plane::of_section(number) else {
+            return Ok(());
         };
-        let from = last.in_file(last.begin_of(part));
-        let to = last.in_file(last.begin_of(next));
+        let from = last.in_file(last.begin_of(Part::Section(plane)));
+        let to = last.in_file(last.end_of(plane));
         write!(f, "section {number} is bytes {from} up to {to}")
     }
 }
