@@ -8,39 +8,39 @@ mod room; // how long texts and blocks are
 mod showing; // a text from a block
 mod storing; // a block to its file
 
+use files::{Word, word_count};
 use making::make_block;
-use saying::say;
+use saying::{Said, say};
 use showing::show_block;
 
-fn say_end(done: bool, word: &[u8]) {
-    if !done {
-        say(b"not ");
+fn say_end(rt: &HostRuntime, done: Result<(), Said>, word: &str) {
+    match done {
+        Ok(()) => say!(rt; "{word}\n"),
+        Err(Said) => say!(rt; "not {word}\n"),
     }
-    say(word);
 }
 
-// The two words from argument i on.
-fn answer(rt: &HostRuntime, i: usize, block: usize) {
-    if files::is_word(rt, i, b"--text") {
-        say_end(show_block(rt, block), b"shown\n");
-        return;
+// Answers two words.
+fn answer(text: Word, block: Word) {
+    if text.is("--text") {
+        say_end(block.rt, show_block(block), "shown");
+    } else {
+        say_end(block.rt, make_block(text, block), "written");
     }
-    say_end(make_block(rt, i, block), b"written\n");
 }
 
 fn main(rt: HostRuntime) {
-    let words = files::word_count(&rt);
+    let word = |index| Word { rt: &rt, index };
+    let words = word_count(&rt);
     let mut missing = words < 2;
-    let mut i: usize = 1;
-    while i < words {
+    for i in (1..words).step_by(2) {
         if words - i < 2 {
             missing = true;
-            break;
+        } else {
+            answer(word(i), word(i + 1));
         }
-        answer(&rt, i, i + 1);
-        i += 2;
     }
     if missing {
-        say(b"use: author TEXT BLOCK ... | author --text BLOCK ...\nnot written\n");
+        say!(rt; "use: author TEXT BLOCK ... | author --text BLOCK ...\nnot written\n");
     }
 }

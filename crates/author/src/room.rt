@@ -10,11 +10,3 @@ const SECTION_ROOM: usize = 1 + 2 * PIVOTS + PIECES * (2 + 8 * ROW) + 17;
 
 // Header, sections, trailer. That of luma is shorter, so the longest block does not fill it.
 pub(crate) const BLOCK_ROOM: usize = 24 + 3 * SECTION_ROOM + 12;
-
-// The first n bytes; none where there are not so many.
-pub(crate) fn first(bytes: &[u8], n: usize) -> &[u8] {
-    if n <= bytes.len() {
-        return &bytes[..n];
-    }
-    &bytes[..0]
-}

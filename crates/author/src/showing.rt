@@ -1,40 +1,28 @@
 // A text from a block.
-use crate::room::{TEXT_ROOM, first};
-use files::BLOCK_ROOM;
+use crate::room::TEXT_ROOM;
+use files::{BLOCK_ROOM, Word};
 use plan_text::show;
-use saying::{block_of, say, say_argument, say_refusal, say_unread};
+use saying::{LastBytes, Said, read_file, say, say_bytes, say_word};
 
-// The text of a block that argument i names. No text is longer than the room.
-fn say_text(rt: &HostRuntime, i: usize, block: &[u8]) -> bool {
-    let mut text = [0u8; TEXT_ROOM];
-    let n = show(block, &mut text);
-    if n == 0 {
-        say_argument(rt, i);
-        say(b": the text cannot be shown\n");
-        return false;
+// The text of a block that reading accepts. No text is longer than the room.
+fn say_text(word: Word, block: &[u8]) -> Result<(), Said> {
+    let mut room = [0u8; TEXT_ROOM];
+    match show(block, &mut room) {
+        Some(text) => {
+            say_bytes(word.rt, text);
+            Ok(())
+        }
+        None => {
+            say_word(word);
+            say!(word.rt; ": the text cannot be shown\n");
+            Err(Said)
+        }
     }
-    say(first(&text, n));
-    true
 }
 
-// The last bytes of the file that argument i names.
-fn show_bytes(rt: &HostRuntime, i: usize, bytes: &[u8]) -> bool {
-    let reading = block::read(bytes);
-    let field = reading.field;
-    if reading.number != 0 {
-        say_refusal(rt, i, reading.number, reading.place, field, bytes);
-        return false;
-    }
-    say_text(rt, i, block_of(bytes))
-}
-
-// Says the text of the block that argument i names; false, having said why, where there is none.
-pub(crate) fn show_block(rt: &HostRuntime, i: usize) -> bool {
-    if !files::is_readable(rt, i) {
-        say_unread(rt, i);
-        return false;
-    }
-    let mut bytes = [0u8; BLOCK_ROOM];
-    let n = files::load_end(rt, i, &mut bytes);
-    show_bytes(rt, i, &bytes[..n])
+// Says the text of a block; says why, where there is none.
+pub(crate) fn show_block(word: Word) -> Result<(), Said> {
+    let mut room = [0u8; BLOCK_ROOM];
+    let (_, bytes) = read_file(word, &mut room)?;
+    say_text(word, LastBytes { bytes, before: 0 }.block())
 }

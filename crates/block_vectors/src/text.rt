@@ -1,6 +1,4 @@
 // Text in a line of bytes. What the line has no room for is left out.
-use saying::size;
-
 pub(crate) const LINE: usize = 20480;
 
 pub(crate) fn put(line: &mut [u8; LINE], at: usize, b: u8) -> usize {
@@ -49,7 +47,7 @@ pub(crate) fn put_place(
 }
 
 pub(crate) fn put_signed(line: &mut [u8; LINE], at: usize, index: usize, z: i64) -> usize {
-    put_place(line, at, index, z < 0, size(z))
+    put_place(line, at, index, z < 0, z.unsigned_abs())
 }
 
 pub(crate) fn write(line: [u8; LINE], n: usize) {

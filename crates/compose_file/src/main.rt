@@ -7,80 +7,50 @@
 mod night; // the jobs of one band
 mod pictures; // all bands of all pictures
 
-ghost use Rattle.std.specs.Prelude.{◌<◌, ◌≤◌};
-
-use files::{BLOCK_ROOM, is_readable, is_word, load_end, word_count};
-use picture_files::group::Names;
-use picture_files::schedule::{Way, way_of};
+use files::{BLOCK_ROOM, Word, word_count};
+use picture_files::names::Names;
+use picture_files::schedule::Way;
 use pictures::compose_plan;
-use saying::{say, say_refusal, say_unread};
+use saying::{Said, read_block, say, say_unread};
 
-fn compose_block(rt: &HostRuntime, names: Names, way: Way, bytes: &[u8]) -> bool {
-    let reading = block::read(bytes);
-    if reading.number != 0 {
-        let field = reading.field;
-        say_refusal(rt, names.block, reading.number, reading.place, field, bytes);
-        return false;
+// Composes what the four words name; says why, where nothing was written.
+fn compose_group(names: Names, way: Way) -> Result<(), Said> {
+    let mut room = [0u8; BLOCK_ROOM];
+    let bytes = names.block.last_bytes(&mut room);
+    if bytes.is_empty() && !names.block.is_readable() {
+        return Err(say_unread(names.block));
     }
-    let plan = reading.plan;
-    compose_plan(rt, names, way, plan)
-}
-
-fn compose_group(rt: &HostRuntime, names: Names, way: Way) -> bool {
-    let mut bytes = [0u8; BLOCK_ROOM];
-    let n = load_end(rt, names.block, &mut bytes);
-    if n == 0 {
-        if !is_readable(rt, names.block) {
-            say_unread(rt, names.block);
-            return false;
-        }
-    }
-    compose_block(rt, names, way, &bytes[..n])
-}
-
-fn say_use() {
-    say(b"use: compose_file [--standby] [--late] BLOCK BASE ENHANCEMENT OUTPUT ...\nnot written\n");
-}
-
-fn say_end(written: bool) {
-    if written {
-        say(b"written\n");
-    } else {
-        say(b"not written\n");
-    }
-}
-
-// The first of the four words of a group that begins at word i, with `--late` where it is late.
-fn first_of(late: bool, i: usize, words: usize) -> usize
-    requires { i < words }
-    ensures { (i ≤ result) × (result ≤ words) }
-{
-    if late { i + 1 } else { i }
+    let reading = read_block(bytes);
+    let plan = reading.map_err(|refused| refused.say(names.block, bytes))?;
+    compose_plan(names, way, &plan)
 }
 
 fn main(rt: HostRuntime) {
+    let word = |index| Word { rt: &rt, index };
     let words = word_count(&rt);
-    let standby = is_word(&rt, 1, b"--standby");
-    let mut i: usize = if standby { 2 } else { 1 };
-    if words <= i {
-        say_use();
-        return;
-    }
+    let standby = word(1).is("--standby");
+    let mut i = if standby { 2 } else { 1 };
+    let mut missing = words <= i;
     while i < words {
-        let late = is_word(&rt, i, b"--late");
-        let first = first_of(late, i, words);
+        let late = word(i).is("--late");
+        let first = if late { i + 1 } else { i };
         if words - first < 4 {
-            say_use();
-            return;
+            missing = true;
+            break;
         }
         let names = Names {
-            block: first,
-            base: first + 1,
-            enhancement: first + 2,
-            output: first + 3,
+            block: word(first),
+            base: word(first + 1),
+            enhancement: word(first + 2),
+            output: word(first + 3),
         };
-        let written = compose_group(&rt, names, way_of(standby, late));
-        say_end(written);
+        match compose_group(names, Way::of(standby, late)) {
+            Ok(()) => say!(rt; "written\n"),
+            Err(Said) => say!(rt; "not written\n"),
+        }
         i = first + 4;
+    }
+    if missing {
+        say!(rt; "use: compose_file [--standby] [--late] BLOCK BASE ENHANCEMENT OUTPUT ...\nnot written\n");
     }
 }

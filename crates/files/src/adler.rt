@@ -1,64 +1,55 @@
 // The Adler-32 of a file (RFC 1950), which zlib and many tools give.
 ghost use Rattle.std.specs.Prelude.{◌<◌};
 
-use crate::read_full;
+use crate::{PART, read_full};
 use std::fs::File;
-use std::num::wrapping_add_u64;
 
-// The two sums, each below 65,521 after every part of a file.
+const MODULUS: u64 = 65521;
+
+// The two sums, each below the modulus after every part of a file.
 #[derive(Clone, Copy)]
 struct Sums {
     a: u64,
     b: u64,
 }
 
-fn wide(b: u8) -> u64 {
-    b as u64
-}
+impl Sums {
+    // Those of no bytes.
+    const START: Sums = Sums { a: 1, b: 0 };
 
-// The sums after some bytes more. At most 65,536 bytes come at once, so no sum comes near 2^64 before it is taken
-// modulo 65,521.
-fn after(sums: Sums, bytes: &[u8]) -> Sums {
-    let mut a = sums.a;
-    let mut b = sums.b;
-    let mut i: usize = 0;
-    while i < bytes.len() {
-        a = wrapping_add_u64(a, wide(bytes[i]));
-        b = wrapping_add_u64(b, a);
-        i += 1;
+    // The sums after some bytes more. At most 65,536 bytes come at once, so no sum comes near 2^64 before it is taken
+    // modulo 65,521.
+    fn after(self, bytes: &[u8]) -> Sums {
+        let mut a = self.a;
+        let mut b = self.b;
+        for byte in bytes {
+            a = a.wrapping_add(u64::from(*byte));
+            b = b.wrapping_add(a);
+        }
+        Sums {
+            a: a % MODULUS,
+            b: b % MODULUS,
+        }
     }
-    Sums {
-        a: a % 65521,
-        b: b % 65521,
+
+    // Both in one number.
+    fn joined(self) -> u32 {
+        (65536 * (self.b % MODULUS) + self.a % MODULUS) as u32
     }
-}
-
-// Both sums in one number.
-fn joined(sums: Sums) -> usize {
-    let high = (sums.b % 65521) as usize;
-    let low = (sums.a % 65521) as usize;
-    65536 * high + low
-}
-
-fn fewer(left: usize, n: usize) -> usize
-    requires { (0 < left) × (0 < n) }
-    ensures { result < left }
-{
-    if n < left { left - n } else { 0 }
 }
 
 // The check sum of the bytes that come next in the file, as many as wanted, or of all where it has fewer.
-pub(crate) fn adler32(file: &File, wanted: usize) -> usize {
-    let mut sums = Sums { a: 1, b: 0 };
+pub(crate) fn adler32(file: &File, wanted: u64) -> u32 {
+    let mut sums = Sums::START;
     let mut left = wanted;
     while 0 < left {
-        let mut bytes = io::large_buffer();
+        let mut bytes = [0u8; PART];
         let n = read_full(file, &mut bytes);
         if n == 0 {
             break;
         }
-        sums = after(sums, &bytes[..n]);
-        left = fewer(left, n);
+        sums = sums.after(&bytes[..n]);
+        left = left.saturating_sub(n as u64);
     }
-    joined(sums)
+    sums.joined()
 }

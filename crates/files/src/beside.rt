@@ -1,114 +1,83 @@
 // A file is written under its name and `.part`, and moved to its name when it is whole: nobody ever finds half of it
 // under its name.
-ghost use Rattle.io.specs.Counts.{IsPrefixLen};
-
 use crate::adler::adler32;
-use crate::words::{argument, path_of};
-use crate::{length_of, length_or_none, seek};
+use crate::words::{WORD_ROOM, Word, path_of};
+use crate::{length_of, seek};
 use std::fs::{File, remove_file, rename};
+use std::io::Result;
 
-fn put(bytes: &mut [u8], i: usize, b: u8) {
-    if i < bytes.len() {
-        bytes[i] = b;
+impl Word<'_> {
+    // The name beside it, in this room: it and `.part`. It is empty, and names no file, where there is no such word or no
+    // room for it.
+    fn name_beside<'b>(self, room: &'b mut [u8]) -> &'b [u8] {
+        let ending = b".part";
+        let n = self.fill(room);
+        if n == 0 || room.len() - n < ending.len() {
+            return &room[..0];
+        }
+        let end = n + ending.len();
+        room[n..end].copy_from_slice(ending);
+        &room[..end]
     }
-}
 
-// Puts `.part` after the first n bytes of a path and gives the new length; 0, which names no file, where there is no
-// room for it.
-fn with_part(n: usize, path: &mut [u8]) -> usize
-    ensures { IsPrefixLen result path.new }
-{
-    if path.len() < 5 {
-        return 0;
+    // Makes the file beside, open for writing; an error where it cannot be made, as where it is there.
+    pub fn create_beside(self) -> Result<File> {
+        let mut room = [0u8; WORD_ROOM];
+        let path = path_of(self.name_beside(&mut room))?;
+        File::options()
+            .write(true)
+            .create_new(true)
+            .open(self.rt, path)
     }
-    if path.len() - 5 < n {
-        return 0;
+
+    // The file beside, open for reading.
+    fn open_beside(self) -> Result<File> {
+        let mut room = [0u8; WORD_ROOM];
+        File::open(self.rt, path_of(self.name_beside(&mut room))?)
     }
-    if n == 0 {
-        return 0;
+
+    // The check sum of all that stands in the file beside; of nothing where it cannot be opened.
+    pub fn sum_beside(self) -> u32 {
+        match self.open_beside() {
+            Ok(file) => sum_of(&file),
+            Err(_) => 1,
+        }
     }
-    put(path, n, b'.');
-    put(path, n + 1, b'p');
-    put(path, n + 2, b'a');
-    put(path, n + 3, b'r');
-    put(path, n + 4, b't');
-    n + 5
-}
 
-// The name beside the one that argument i is.
-fn name_beside(rt: &HostRuntime, i: usize, path: &mut [u8]) -> usize
-    ensures { IsPrefixLen result path.new }
-{
-    let n = argument(rt, i, path);
-    with_part(n, path)
-}
+    // Moves the file beside to the name that the word is; the error says why it could not, EINVAL that something stands
+    // there that is no file.
+    pub fn move_into_place(self) -> Result<()> {
+        let mut from = [0u8; WORD_ROOM];
+        let mut to = [0u8; WORD_ROOM];
+        let path = path_of(self.bytes(&mut to))?;
+        self.can_replace(path)?;
+        rename(self.rt, path_of(self.name_beside(&mut from))?, path)
+    }
 
-// Makes the file beside, open for writing; an error where it cannot be made, as where it is there.
-pub fn create_beside(rt: &HostRuntime, i: usize) -> std::io::Result<File> {
-    let mut path = io::large_buffer();
-    let n = name_beside(rt, i, &mut path);
-    File::options()
-        .write(true)
-        .create_new(true)
-        .open(rt, path_of(&path[..n])?)
-}
+    // Whether what stands under a name may be replaced: nothing, or a regular file, which alone can be cut at its own
+    // length. A device would be gone for good, since moving takes its name away. The error says why not.
+    fn can_replace(self, path: &str) -> Result<()> {
+        match File::options().read(true).write(true).open(self.rt, path) {
+            Ok(file) => file.set_len(length_of(&file)?),
+            Err(_) => Ok(()),
+        }
+    }
 
-// The file beside, open for reading.
-fn open_beside(rt: &HostRuntime, i: usize) -> std::io::Result<File> {
-    let mut path = io::large_buffer();
-    let n = name_beside(rt, i, &mut path);
-    File::open(rt, path_of(&path[..n])?)
+    // Removes the file beside.
+    fn try_remove_beside(self) -> Result<()> {
+        let mut room = [0u8; WORD_ROOM];
+        remove_file(self.rt, path_of(self.name_beside(&mut room))?)
+    }
+
+    // Removes the file beside, where it can.
+    pub fn remove_beside(self) {
+        let _ = self.try_remove_beside();
+    }
 }
 
 // The check sum of all that stands in an open file.
-fn sum_of(file: &File) -> usize {
-    let length = length_or_none(file);
+fn sum_of(file: &File) -> u32 {
+    let length = length_of(file).unwrap_or(0);
     seek(file, 0);
     adler32(file, length)
-}
-
-// The check sum of all that stands in the file beside; of nothing where it cannot be opened.
-pub fn sum_beside(rt: &HostRuntime, i: usize) -> usize {
-    match open_beside(rt, i) {
-        Ok(file) => sum_of(&file),
-        Err(_) => 1,
-    }
-}
-
-// Cuts an open file at its own length.
-fn cut(file: &File) -> std::io::Result<()> {
-    let length = length_of(file)?;
-    file.set_len(length)
-}
-
-// Whether what stands under a name may be replaced: nothing, or a regular file, which alone can be cut at its own
-// length. A device would be gone for good, since moving takes its name away. The error says why not.
-fn can_replace(rt: &HostRuntime, path: &str) -> std::io::Result<()> {
-    match File::options().read(true).write(true).open(rt, path) {
-        Ok(file) => cut(&file),
-        Err(_) => Ok(()),
-    }
-}
-
-// Moves the file beside to the name that argument i is; the error says why it could not, EINVAL that something stands
-// there that is no file.
-pub fn move_into_place(rt: &HostRuntime, i: usize) -> std::io::Result<()> {
-    let mut from = io::large_buffer();
-    let n = name_beside(rt, i, &mut from);
-    let mut to = io::large_buffer();
-    let m = argument(rt, i, &mut to);
-    let path = path_of(&to[..m])?;
-    can_replace(rt, path)?;
-    rename(rt, path_of(&from[..n])?, path)
-}
-
-// Removes the file at this path, where it can.
-fn remove(rt: &HostRuntime, path: &[u8]) -> std::io::Result<()> {
-    remove_file(rt, path_of(path)?)
-}
-
-pub fn remove_beside(rt: &HostRuntime, i: usize) {
-    let mut path = io::large_buffer();
-    let n = name_beside(rt, i, &mut path);
-    let _ = remove(rt, &path[..n]);
 }

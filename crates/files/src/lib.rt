@@ -1,77 +1,88 @@
-// Files that arguments name: their lengths, their last bytes, runs of samples at their places, and a file written
-// beside and moved into place.
+// Files that words of the command line name: their lengths, their last bytes, runs of samples at their places, and a
+// file written beside and moved into place.
 #![tactic(auto)]
 
 mod adler; // the check sum of what stands in a file
 mod beside; // a file written under another name until it is whole
-mod errors; // the numbers of errors
 mod samples; // runs of samples at their places
 mod words; // the words of the command line
 
-ghost use Rattle.io.specs.Counts.{IsPrefixLen};
+ghost use Rattle.std.specs.Prelude.{◌≤◌, length};
 
-pub use beside::{create_beside, move_into_place, remove_beside, sum_beside};
-pub use errors::code_of;
 pub use samples::{load, store};
 use std::fs::File;
-use std::io::{Read, Seek, SeekFrom};
+use std::io::{Read, Result, Seek, SeekFrom};
 use words::path_of;
-pub use words::{argument, is_word, word_count};
+pub use words::{WORD_ROOM, Word, word_count};
 
 // As far back as a trailer can point, and the trailer.
 pub const BLOCK_ROOM: usize = 65547;
 
-// The file that argument i names, open for reading, or why it cannot be.
-pub fn open_argument(rt: &HostRuntime, i: usize) -> std::io::Result<File> {
-    let mut path = io::large_buffer();
-    let n = argument(rt, i, &mut path);
-    File::open(rt, path_of(&path[..n])?)
+// As many bytes as go through memory at once.
+pub(crate) const PART: usize = 65536;
+
+// No file reaches so many bytes.
+const PAST_ALL: usize = 9223372036854775808;
+
+impl Word<'_> {
+    // The file that it names, open for reading, or why it cannot be.
+    pub fn open(self) -> Result<File> {
+        let mut room = [0u8; WORD_ROOM];
+        File::open(self.rt, path_of(self.bytes(&mut room))?)
+    }
+
+    // The length of the file that it names, 0 where it has none.
+    pub fn file_length(self) -> usize {
+        match self.open() {
+            Ok(file) => length_of(&file).unwrap_or(0) as usize,
+            Err(_) => 0,
+        }
+    }
+
+    // The last bytes of the file that it names, in this room, as many as there is room for; none where it cannot be read
+    // or sought in.
+    pub fn last_bytes<'b>(self, room: &'b mut [u8]) -> &'b [u8] {
+        let n = match self.open() {
+            Ok(file) => read_end(&file, room),
+            Err(_) => 0,
+        };
+        &room[..n]
+    }
+
+    // Whether the file that it names can be opened, sought in and read.
+    pub fn is_readable(self) -> bool {
+        match self.open() {
+            Ok(file) => has_bytes(&file),
+            Err(_) => false,
+        }
+    }
 }
 
 // The file's length; an error where it cannot be sought in, as a pipe. The next read begins at its end.
-pub fn length_of(file: &File) -> std::io::Result<u64> {
+pub(crate) fn length_of(file: &File) -> Result<u64> {
     let mut sought = file;
     sought.seek(SeekFrom::End(0))
 }
 
-// The file's length, 0 where it has none.
-pub(crate) fn length_or_none(file: &File) -> usize {
-    match length_of(file) {
-        Ok(n) => n as usize,
-        Err(_) => 0,
-    }
-}
-
-// The length of the file that argument i names, 0 where it has none.
-pub fn file_length(rt: &HostRuntime, i: usize) -> usize {
-    match open_argument(rt, i) {
-        Ok(file) => length_or_none(&file),
-        Err(_) => 0,
-    }
-}
-
-// Seeks a place. No file reaches 2^63 bytes, so a place from there on is sought at the end, where nothing can be read.
+// Seeks a place; one that no file reaches at the end, where nothing can be read.
 pub(crate) fn seek(file: &File, place: usize) {
     let mut sought = file;
-    let _ = if place < 9223372036854775808 {
-        sought.seek(SeekFrom::Start(place as u64))
+    let _ = sought.seek(if place < PAST_ALL {
+        SeekFrom::Start(place as u64)
     } else {
-        length_of(file)
-    };
+        SeekFrom::End(0)
+    });
 }
 
 // Fills the room with the bytes that come next in the file, and answers how many they are: fewer than there is room
 // for where the file ends or a read fails.
 pub(crate) fn read_full(file: &File, bytes: &mut [u8]) -> usize
-    ensures { IsPrefixLen result bytes.new }
+    ensures { result ≤ length bytes.new }
 {
     let mut read = file;
     let mut done: usize = 0;
     while done < bytes.len() {
-        let n = match read.read(&mut bytes[done..]) {
-            Ok(n) => n,
-            Err(_) => 0,
-        };
+        let n = read.read(&mut bytes[done..]).unwrap_or(0);
         if n == 0 {
             break;
         }
@@ -80,46 +91,23 @@ pub(crate) fn read_full(file: &File, bytes: &mut [u8]) -> usize
     done
 }
 
-// The last bytes of an open file of this length, as many as there is room for.
-fn read_end(file: &File, length: usize, bytes: &mut [u8]) -> usize
-    ensures { IsPrefixLen result bytes.new }
+// How many bytes the last ones of an open file are, which are put into the first of the room; as many as there is room
+// for.
+fn read_end(file: &File, room: &mut [u8]) -> usize
+    ensures { result ≤ length room.new }
 {
+    let length = length_of(file).unwrap_or(0) as usize;
     if length == 0 {
         return 0;
     }
-    if bytes.len() < length {
-        seek(file, length - bytes.len());
-    } else {
-        seek(file, 0);
-    }
-    read_full(file, bytes)
-}
-
-// The last bytes of the file that argument i names, as many as there is room for; none where it cannot be read or
-// sought in.
-pub fn load_end(rt: &HostRuntime, i: usize, bytes: &mut [u8]) -> usize
-    ensures { IsPrefixLen result bytes.new }
-{
-    match open_argument(rt, i) {
-        Ok(file) => read_end(&file, length_or_none(&file), bytes),
-        Err(_) => 0,
-    }
+    seek(file, length.saturating_sub(room.len()));
+    read_full(file, room)
 }
 
 // Whether an open file can be sought in and read.
 fn has_bytes(file: &File) -> bool {
     let length = length_of(file);
     seek(file, 0);
-    let mut one = [0u8; 1];
     let mut read = file;
-    let got = read.read(&mut one);
-    length.is_ok() & got.is_ok()
-}
-
-// Whether the file that argument i names can be opened, sought in and read.
-pub fn is_readable(rt: &HostRuntime, i: usize) -> bool {
-    match open_argument(rt, i) {
-        Ok(file) => has_bytes(&file),
-        Err(_) => false,
-    }
+    length.is_ok() & read.read(&mut [0u8; 1]).is_ok()
 }

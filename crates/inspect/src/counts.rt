@@ -1,77 +1,64 @@
-// The pivots and pieces of a section, and the coefficients of a piece. Reading has seen to it that num_pivots_minus2 and
-// the orders are small enough; for other numbers there are none.
-ghost use Rattle.std.specs.Prelude.{◌≤◌};
-ghost use Rattle.plan.specs.Rule7.{row_places};
-
-use plan::Piece;
-use plan::limits::{MOST_N, PIECES, PIVOTS, ROW};
+// The pivots and pieces of a component, and the coefficients of a piece. Reading has seen to it that num_pivots_minus2
+// and the orders are small enough; for other numbers there are none.
 use plan::methods::{MMR, coefficients_used};
 use plan::versions::pieces_carried;
-use saying::{end_line, say, say_number};
+use plan::{Component, Piece, Plan};
+use saying::Plane;
+use std::fmt;
 
-pub(crate) fn pieces_of(version: u16, n: u8) -> usize
-    ensures { result ≤ 17 }
-{
-    if n <= MOST_N {
-        pieces_carried(version, n)
-    } else {
-        0
+pub(crate) fn component_of(plan: &Plan, plane: Plane) -> &Component {
+    match plane {
+        Plane::Y => &plan.y,
+        Plane::Cb => &plan.cb,
+        Plane::Cr => &plan.cr,
     }
 }
 
-// How many of them lie between two pivots: all, but for one above the last pivot.
-pub(crate) fn between_pivots(n: u8) -> usize
-    ensures { result ≤ 16 }
-{
-    if n <= MOST_N { (n as usize) + 1 } else { 0 }
+// The pieces that a section of this version carries.
+pub(crate) fn pieces_of(c: &Component, version: u16) -> &[Piece] {
+    c.pieces.get(..pieces_carried(version, c.n)).unwrap_or(&[])
 }
 
 // Whether one of them is MMR. Places past the last piece are 0.
-pub(crate) fn has_mmr(pieces: [Piece; PIECES]) -> bool {
-    let mut found = false;
-    let mut p: usize = 0;
-    while p < PIECES {
-        found = found | (pieces[p].idc == MMR);
-        p += 1;
+pub(crate) fn has_mmr(c: &Component) -> bool {
+    c.pieces.iter().any(|piece| piece.idc == MMR)
+}
+
+pub(crate) fn coefficients_of(piece: &Piece) -> &[i64] {
+    let count = coefficients_used(piece.idc, piece.order);
+    piece.row.get(..count).unwrap_or(&[])
+}
+
+// The pred_pivot_value fields.
+pub(crate) fn preds_of(c: &Component) -> &[u16] {
+    let count = usize::from(c.n).saturating_add(2);
+    c.preds.get(..count).unwrap_or(&[])
+}
+
+// The fields, each after a space.
+#[derive(Clone, Copy)]
+pub(crate) struct Preds<'a>(pub(crate) &'a [u16]);
+
+impl fmt::Display for Preds<'_> {
+    fn fmt<W: fmt::Write>(&self, f: &mut fmt::Formatter<W>) -> fmt::Result {
+        for pred in self.0 {
+            write!(f, " {pred}")?;
+        }
+        Ok(())
     }
-    found
 }
 
-pub(crate) fn coefficients_of(idc: u8, order: u8) -> usize
-    ensures { result ≤ row_places }
-{
-    let count = coefficients_used(idc, order);
-    if count <= ROW { count } else { 0 }
-}
+// The pivots, likewise: each is the sum of the fields up to its own. No 17 of them come near to where it wraps.
+#[derive(Clone, Copy)]
+pub(crate) struct Pivots<'a>(pub(crate) &'a [u16]);
 
-pub(crate) fn pair(x: u16) -> usize
-    ensures { result ≤ 65535 }
-{
-    x as usize
-}
-
-// A number after another.
-pub(crate) fn say_spaced(n: usize) {
-    say(b" ");
-    say_number(n);
-}
-
-// A pivot is the sum of the pred_pivot_value fields up to its own.
-fn kept(summed: bool, sum: usize) -> usize
-    ensures { result ≤ sum }
-{
-    if summed { sum } else { 0 }
-}
-
-// The fields, or the pivots.
-pub(crate) fn say_pivots(n: u8, preds: [u16; PIVOTS], summed: bool) {
-    let last = between_pivots(n);
-    let mut sum: usize = 0;
-    let mut i: usize = 0;
-    while i <= last {
-        sum = kept(summed, sum) + pair(preds[i]);
-        say_spaced(sum);
-        i += 1;
+impl fmt::Display for Pivots<'_> {
+    fn fmt<W: fmt::Write>(&self, f: &mut fmt::Formatter<W>) -> fmt::Result {
+        let mut pivot: u32 = 0;
+        for pred in self.0 {
+            pivot = pivot.wrapping_add(u32::from(*pred));
+            write!(f, " {pivot}")?;
+        }
+        Ok(())
     }
-    end_line();
 }

@@ -5,162 +5,200 @@
 // there are 256 codes, and a mapped sample v stands v units above the panel's lower edge.
 ghost use Rattle.std.specs.Prelude.{◌≤◌};
 
-use crate::counts::{between_pivots, has_mmr, pair, pieces_of, say_pivots, say_spaced};
-use crate::markup::{
-    ALONG, AXES, BACK, CB_SLICE, CR, CR_SLICE, CURVE, CUT, GREATEST, LAST_CODE, LAST_PIVOT, LEAST,
-    LUMA, MOVE, PANEL, PANEL_END, PIVOT, PIVOT_END, SHADE, TITLE_END, WIDTH, put, put_line,
-    put_number,
-};
+use crate::counts::{Pivots, component_of, has_mmr, pieces_of, preds_of};
+use crate::markup::{AXES, END, GRID, PANEL, START};
 use mapping::mapped_table;
 use mmr::slice::slice_table;
-use plan::limits::PIVOTS;
-use plan::{Component, Plan};
+use plan::Plan;
+use saying::{Plane, say};
+use std::fmt;
 
-const PANEL_WIDTH: usize = 262144;
+const PANEL_WIDTH: u32 = 262144;
 
-// The last code, by BL_bit_depth_minus8: reading has seen to it that it is 0 or 2.
-fn last_code(bl: u8) -> u16
-    ensures { result ≤ 1023 }
-{
-    if bl == 0 { 255 } else { 1023 }
+// The codes' bits. Reading has seen to it that BL_bit_depth_minus8 is 0 or 2.
+#[derive(Clone, Copy, Debug, PartialEq, Eq)]
+enum Depth {
+    Eight,
+    Ten,
 }
 
-// Where a code stands, or how wide so many are.
-fn across(code: u16, bl: u8) -> usize
-    ensures { result ≤ 67107840 }
-{
-    if bl == 0 {
-        1024 * (code as usize)
-    } else {
-        256 * (code as usize)
+impl Depth {
+    fn of(plan: &Plan) -> Depth {
+        match plan.header.bl {
+            0 => Depth::Eight,
+            _ => Depth::Ten,
+        }
+    }
+
+    fn last_code(self) -> u16
+        ensures { result ≤ 1023 }
+    {
+        match self {
+            Depth::Eight => 255,
+            Depth::Ten => 1023,
+        }
+    }
+
+    // Where a code stands, or how wide so many are.
+    fn across(self, code: u16) -> u32
+        ensures { result ≤ 67107840 }
+    {
+        let unit = match self {
+            Depth::Eight => 1024,
+            Depth::Ten => 256,
+        };
+        unit * u32::from(code)
     }
 }
 
-// A code's mapped sample as a point of the curve, or, of the red line, only where it is at an end.
-fn mark(what: usize, code: u16, v: u16, bl: u8) {
-    let x = across(code, bl);
-    let y = 65535 - (v as usize);
-    if what == CURVE {
-        say_spaced(x);
-        say_spaced(y);
-        return;
-    }
-    if (v == 0) | (v == 65535) {
-        put_number(MOVE, x);
-        say_spaced(y);
-        put_number(ALONG, across(1, bl));
+// What each code comes to; past the last code nothing is drawn.
+#[derive(Clone, Copy)]
+struct Curve<'a> {
+    table: &'a [u16; 1024],
+    depth: Depth,
+}
+
+impl Curve<'_> {
+    // The least and the greatest mapped sample.
+    fn ends(self) -> (u16, u16) {
+        let Curve { table, depth } = self;
+        let codes = usize::from(depth.last_code()) + 1;
+        let mut least = u16::MAX;
+        let mut greatest = 0;
+        for sample in table.iter().take(codes) {
+            least = least.min(*sample);
+            greatest = greatest.max(*sample);
+        }
+        (least, greatest)
     }
 }
 
-fn trace(what: usize, table: &[u16; 1024], bl: u8) {
-    let last = last_code(bl);
-    let mut code: u16 = 0;
-    put(what);
-    while code <= last {
-        mark(what, code, table[code as usize], bl);
-        code += 1;
+// The points of the curve.
+impl fmt::Display for Curve<'_> {
+    fn fmt<W: fmt::Write>(&self, f: &mut fmt::Formatter<W>) -> fmt::Result {
+        for (code, sample) in (0..=self.depth.last_code()).zip(self.table) {
+            let x = self.depth.across(code);
+            let y = u16::MAX.saturating_sub(*sample);
+            write!(f, " {x} {y}")?;
+        }
+        Ok(())
+    }
+}
+
+// Its red parts: the codes that are mapped to an end.
+#[derive(Clone, Copy)]
+struct Cut<'a>(Curve<'a>);
+
+impl fmt::Display for Cut<'_> {
+    fn fmt<W: fmt::Write>(&self, f: &mut fmt::Formatter<W>) -> fmt::Result {
+        let Curve { table, depth } = self.0;
+        let width = depth.across(1);
+        for (code, sample) in (0..=depth.last_code()).zip(table) {
+            if matches!(*sample, 0 | 65535) {
+                let x = depth.across(code);
+                let y = u16::MAX.saturating_sub(*sample);
+                write!(f, "M{x} {y}h{width}")?;
+            }
+        }
+        Ok(())
     }
 }
 
 // A piece, from pivot to pivot, shaded in turn, and a dashed line at its first pivot.
-fn say_piece(p: usize, x: usize, width: usize) {
-    put_number(SHADE + p % 2, x);
-    put_number(WIDTH, width);
-    put_number(BACK, width);
-    put_number(PIVOT, x);
-    put(PIVOT_END);
+#[derive(Clone, Copy)]
+struct Shade {
+    piece: usize,
+    x: u32,
+    width: u32,
 }
 
-// What the last pivot leaves of the panel.
-fn width_above(x: usize) -> usize {
-    if x < PANEL_WIDTH { PANEL_WIDTH - x } else { 0 }
+impl fmt::Display for Shade {
+    fn fmt<W: fmt::Write>(&self, f: &mut fmt::Formatter<W>) -> fmt::Result {
+        let (x, width) = (self.x, self.width);
+        let shade = if self.piece % 2 == 0 { "a" } else { "b" };
+        write!(f, "<path class=\"{shade}\" d=\"M{x} 0h{width}")?;
+        write!(
+            f,
+            "v65536h-{width}\"/><path class=\"p\" d=\"M{x} 0v65536\"/>"
+        )
+    }
 }
 
 // The pieces, of which one may stand above the last pivot, and a line at the last pivot. What they leave of the panel is
-// outside the pivots.
-fn say_pieces(version: u16, n: u8, preds: [u16; PIVOTS], bl: u8) {
-    let count = between_pivots(n);
-    let mut x = across(preds[0], bl);
-    let mut p: usize = 0;
-    put(PANEL);
-    while p < count {
-        let width = across(preds[p + 1], bl);
-        say_piece(p, x, width);
-        x += width;
-        p += 1;
-    }
-    if count < pieces_of(version, n) {
-        say_piece(count, x, width_above(x));
-    }
-    put_number(LAST_PIVOT, x);
+// outside the pivots. No place comes near to where it wraps.
+#[derive(Clone, Copy)]
+struct Pieces<'a> {
+    preds: &'a [u16],
+    count: usize,
+    depth: Depth,
 }
 
-fn lesser(a: usize, b: usize) -> usize {
-    if a < b { a } else { b }
-}
-
-fn greater(a: usize, b: usize) -> usize {
-    if a < b { b } else { a }
-}
-
-// Of panel k, which is a slice: where the other samples are.
-fn say_slice(k: usize, bl: u8) {
-    let middle = pair(last_code(bl)) / 2 + 1;
-    if k == CR {
-        put_number(CR_SLICE, middle);
-    } else {
-        put_number(CB_SLICE, middle);
+impl fmt::Display for Pieces<'_> {
+    fn fmt<W: fmt::Write>(&self, f: &mut fmt::Formatter<W>) -> fmt::Result {
+        let Some((first, others)) = self.preds.split_first() else {
+            return Ok(());
+        };
+        let mut x = self.depth.across(*first);
+        for (piece, pred) in others.iter().enumerate() {
+            let width = self.depth.across(*pred);
+            write!(f, "{}", Shade { piece, x, width })?;
+            x = x.wrapping_add(width);
+        }
+        if others.len() < self.count {
+            let above = Shade {
+                piece: others.len(),
+                x,
+                width: PANEL_WIDTH.saturating_sub(x),
+            };
+            write!(f, "{above}")?;
+        }
+        write!(f, "<path class=\"p\" d=\"M{x} 0v65536\"/>")
     }
-}
-
-// The least and the greatest mapped sample.
-fn say_ends(table: &[u16; 1024], bl: u8) {
-    let last = last_code(bl);
-    let mut low: usize = 65535;
-    let mut high: usize = 0;
-    let mut code: u16 = 0;
-    while code <= last {
-        let v = pair(table[code as usize]);
-        low = lesser(low, v);
-        high = greater(high, v);
-        code += 1;
-    }
-    put_number(LEAST, low);
-    put_number(GREATEST, high);
-}
-
-fn say_title(k: usize, pieces: usize, table: &[u16; 1024], bl: u8, sliced: bool) {
-    put_number(k, pieces);
-    put_number(LAST_CODE, pair(last_code(bl)));
-    say_ends(table, bl);
-    if sliced {
-        say_slice(k, bl);
-    }
-    put(TITLE_END);
 }
 
 // What each code comes to. Of a chroma component without MMR pieces a slice is the mapping itself.
-fn table_of(k: usize, plan: Plan) -> [u16; 1024] {
-    if k == LUMA {
-        let h = plan.header;
-        let y = plan.y;
-        return mapped_table(h, y).unwrap_or([0; 1024]);
+fn table_of(plan: &Plan, plane: Plane) -> [u16; 1024] {
+    match plane {
+        Plane::Y => mapped_table(plan.header, plan.y).unwrap_or([0; 1024]),
+        Plane::Cb => slice_table(*plan, false),
+        Plane::Cr => slice_table(*plan, true),
     }
-    slice_table(plan, k == CR)
 }
 
-// The panel of a component, the first, second or third.
-pub(crate) fn plot_component(k: usize, version: u16, plan: Plan, c: Component) {
-    let bl = plan.header.bl;
-    let n = c.n;
-    let preds = c.preds;
-    let pieces = c.pieces;
-    let table = table_of(k, plan);
-    say_title(k, pieces_of(version, n), &table, bl, has_mmr(pieces));
-    say_pivots(n, preds, true);
-    say_pieces(version, n, preds, bl);
-    trace(CURVE, &table, bl);
-    trace(CUT, &table, bl);
-    put_number(AXES, pair(last_code(bl)));
-    put_line(PANEL_END);
+// Plots the panel of a component, so far below the picture's upper edge. Where it is a slice, the other chroma component
+// is held at the middle code.
+fn plot_panel(rt: &HostRuntime, top: u16, plane: Plane, other: Plane, version: u16, plan: &Plan) {
+    let c = component_of(plan, plane);
+    let table = table_of(plan, plane);
+    let depth = Depth::of(plan);
+    let curve = Curve {
+        table: &table,
+        depth,
+    };
+    let last = depth.last_code();
+    let (least, greatest) = curve.ends();
+    let preds = preds_of(c);
+    let count = pieces_of(c, version).len();
+    let pieces = Pieces {
+        preds,
+        count,
+        depth,
+    };
+    say!(rt; "<g transform=\"translate(70 {top})\"><text class=\"t\" y=\"-28\">{plane}: pieces {count}");
+    say!(rt; ", codes 0 to {last}, mapped samples {least} to {greatest}");
+    if has_mmr(c) {
+        say!(rt; ", luma and {other} at {}", last / 2 + 1);
+    }
+    say!(rt; "</text><text y=\"-9\">pivots{}\n{PANEL}", Pivots(preds));
+    say!(rt; "{pieces}{GRID}<path class=\"v\" d=\"M{curve}\"/>");
+    say!(rt; "<path class=\"x\" d=\"{}\"/>{AXES}{last}</text></g>\n", Cut(curve));
+}
+
+// The picture of a plan's block, of this version. Luma has no MMR pieces.
+pub(crate) fn plot_block(rt: &HostRuntime, version: u16, plan: &Plan) {
+    say!(rt; "{START}");
+    plot_panel(rt, 58, Plane::Y, Plane::Cr, version, plan);
+    plot_panel(rt, 356, Plane::Cb, Plane::Cr, version, plan);
+    plot_panel(rt, 654, Plane::Cr, Plane::Cb, version, plan);
+    say!(rt; "{END}");
 }

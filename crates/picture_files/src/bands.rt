@@ -1,19 +1,24 @@
 // A picture is composed band by band, each a picture of its own height: a sample depends on its own row pair only. So
 // any picture goes through a small memory, and a band is read from and written to its places in the planes of the
 // file.
-ghost use Rattle.std.specs.Prelude.{◌<◌, ◌≤◌};
+ghost use Rattle.std.specs.Prelude.{◌<◌};
 
-use files::{load, store};
 use picture::chroma_size;
 use std::fs::File;
-use std::io::{Error, ErrorKind};
-use std::num::wrapping_add_usize;
+use std::io::{Error, ErrorKind, Result};
 
 // The samples of a band at most: eight row pairs of the widest picture.
 pub const BAND: usize = 98304;
 
 // Of these a sixth are Cb's.
 const CHROMA: u16 = (BAND / 6) as u16;
+
+// How many row pairs of so many columns fit in a band; at least one.
+pub fn pairs_in_band(columns: u16) -> u16
+    ensures { 0 < result }
+{
+    CHROMA.checked_div(columns).unwrap_or(1).max(1)
+}
 
 // Row pairs of a picture, whose first byte in the file is `start`.
 #[derive(Clone, Copy)]
@@ -26,83 +31,81 @@ pub struct Band {
     pub count: u16,
 }
 
-// How many row pairs of so many columns fit in a band; at least one.
-fn fitting(columns: u16) -> u16
-    ensures { 0 < result }
-{
-    if columns == 0 {
-        return 1;
-    }
-    let most = CHROMA / columns;
-    if most == 0 { 1 } else { most }
-}
-
-// How many row pairs the next band has, of those that are left.
-pub fn band_of(columns: u16, left: u16) -> u16
-    ensures { (0 < left → 0 < result) × (result ≤ left) }
-{
-    let most = fitting(columns);
-    if left < most { left } else { most }
-}
-
-// Loads a part of the run, where the run has it.
-fn load_plane(file: &File, place: usize, at: usize, n: usize, run: &mut [u16]) -> bool {
-    if run.len() < at {
-        return false;
-    }
-    if run.len() - at < n {
-        return false;
-    }
-    load(file, place, &mut run[at..at + n])
-}
-
-// Stores a part of the run, where the run has it.
-fn store_plane(file: &File, place: usize, at: usize, n: usize, run: &[u16]) -> std::io::Result<()> {
-    if run.len() < at {
-        return Err(Error::from(ErrorKind::InvalidData));
-    }
-    if run.len() - at < n {
-        return Err(Error::from(ErrorKind::InvalidData));
-    }
-    store(file, place, &run[at..at + n])
-}
-
-// The bytes of the file at which the band's parts of the planes begin.
+// What a band has of a plane: its first byte in the file, and its samples in the band's run.
 #[derive(Clone, Copy)]
-struct Places {
-    y: usize,
-    cb: usize,
-    cr: usize,
+struct Part {
+    place: usize,
+    from: usize,
+    to: usize,
 }
 
-fn places_of(b: Band) -> Places {
-    let plane = chroma_size(b.columns, b.pairs);
-    let above = chroma_size(b.columns, b.first);
-    Places {
-        y: wrapping_add_usize(b.start, 8 * above),
-        cb: wrapping_add_usize(b.start, 8 * plane + 2 * above),
-        cr: wrapping_add_usize(b.start, 10 * plane + 2 * above),
+impl Part {
+    fn load(self, file: &File, run: &mut [u16]) -> Result<()> {
+        match run.get_mut(self.from..self.to) {
+            Some(samples) => files::load(file, self.place, samples),
+            None => Err(Error::from(ErrorKind::InvalidData)),
+        }
+    }
+
+    fn store(self, file: &File, run: &[u16]) -> Result<()> {
+        match run.get(self.from..self.to) {
+            Some(samples) => files::store(file, self.place, samples),
+            None => Err(Error::from(ErrorKind::InvalidData)),
+        }
     }
 }
 
-// The band from the file; false where it cannot be read.
-pub fn load_band(file: &File, b: Band, run: &mut [u16]) -> bool {
-    let n = chroma_size(b.columns, b.count);
-    let p = places_of(b);
-    let has_y = load_plane(file, p.y, 0, 4 * n, run);
-    let has_cb = load_plane(file, p.cb, 4 * n, n, run);
-    let has_cr = load_plane(file, p.cr, 5 * n, n, run);
-    has_y & (has_cb & has_cr)
-}
+impl Band {
+    // How many samples its run has.
+    pub fn samples(self) -> usize {
+        6 * chroma_size(self.columns, self.count)
+    }
 
-// The band to the file; the error says why a plane of it, the last of those, cannot be written.
-pub fn store_band(file: &File, b: Band, run: &[u16]) -> std::io::Result<()> {
-    let n = chroma_size(b.columns, b.count);
-    let p = places_of(b);
-    let has_y = store_plane(file, p.y, 0, 4 * n, run);
-    let has_cb = store_plane(file, p.cb, 4 * n, n, run);
-    let has_cr = store_plane(file, p.cr, 5 * n, n, run);
-    has_cr?;
-    has_cb?;
-    has_y
+    // The band of a picture that begins elsewhere.
+    pub(crate) fn moved(self, start: usize) -> Band {
+        Band { start, ..self }
+    }
+
+    // What it has of Y, Cb and Cr.
+    fn parts(self) -> [Part; 3] {
+        let n = chroma_size(self.columns, self.count);
+        let plane = chroma_size(self.columns, self.pairs);
+        let above = chroma_size(self.columns, self.first);
+        [
+            Part {
+                place: self.start.wrapping_add(8 * above),
+                from: 0,
+                to: 4 * n,
+            },
+            Part {
+                place: self.start.wrapping_add(8 * plane + 2 * above),
+                from: 4 * n,
+                to: 5 * n,
+            },
+            Part {
+                place: self.start.wrapping_add(10 * plane + 2 * above),
+                from: 5 * n,
+                to: 6 * n,
+            },
+        ]
+    }
+
+    // Loads the band from the file; an error where it cannot be read.
+    pub fn load(self, file: &File, run: &mut [u16]) -> Result<()> {
+        for part in self.parts() {
+            part.load(file, run)?;
+        }
+        Ok(())
+    }
+
+    // Stores the band to the file; the error says why a plane of it, the last of those, cannot be written.
+    pub fn store(self, file: &File, run: &[u16]) -> Result<()> {
+        let mut stored = Ok(());
+        for part in self.parts() {
+            if let Err(error) = part.store(file, run) {
+                stored = Err(error);
+            }
+        }
+        stored
+    }
 }

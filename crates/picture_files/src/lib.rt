@@ -3,10 +3,10 @@
 #![tactic(auto)]
 
 pub mod bands; // bands of a picture, and their places in a file
-pub mod group; // four words, and the files that they name
+pub mod names; // four words, and the files that they name
 pub mod opened; // the open files of one group
 pub mod progress; // how far the work is
 mod sample; // which sample of a refused job is too large
 pub mod schedule; // which row pairs the jobs of a band name, and which jobs go without the enhancement
 
-pub use sample::say_sample;
+pub use sample::RefusedJob;

@@ -1,220 +1,158 @@
 // The open files of one group, and what they hold. What is written goes to a file beside the output, which is then
 // moved into place.
-use crate::bands::{Band, load_band, store_band};
-use crate::group::{
-    Names, fits, is_enhanced, pictures_in, say_ended, say_pictures, say_task, say_unwritten,
-};
-use crate::schedule::{Way, is_late};
-use files::{
-    code_of, create_beside, file_length, move_into_place, open_argument, remove_beside, sum_beside,
-};
+use crate::bands::Band;
+use crate::names::{Names, Pictures, say_ended, say_task};
+use crate::schedule::Way;
+use files::Word;
 use picture::chroma_size;
 use plan::Header;
-use saying::{say, say_argument, say_number};
+use saying::{Said, say, say_word};
 use std::fs::File;
-use std::io::Error;
-use std::num::wrapping_add_usize;
+use std::io::{Error, ErrorKind, Result as IoResult};
 
-// `pictures` are those of the base, each of `size` bytes. A file to read that is gone meanwhile is not there.
+// A file to read.
 #[derive(Drop)]
-pub struct Files {
-    pub base: Option<File>,
-    pub enhancement: Option<File>,
-    pub output: File,
-    pub enhanced: bool,
+enum Source {
+    Unused,
+    Gone, // meanwhile
+    Open(File),
+}
+
+impl Source {
+    fn open(word: Word) -> Source {
+        match word.open() {
+            Ok(file) => Source::Open(file),
+            Err(_) => Source::Gone,
+        }
+    }
+
+    // Loads a band, where one is used.
+    fn load(&self, band: Band, run: &mut [u16]) -> IoResult<()> {
+        match self {
+            Source::Unused => Ok(()),
+            Source::Gone => Err(Error::from(ErrorKind::NotFound)),
+            Source::Open(file) => band.load(file, run),
+        }
+    }
+}
+
+// `pictures` are those of the base, each of `size` bytes.
+#[derive(Drop)]
+pub struct Files<'a> {
+    pub names: Names<'a>,
+    pub way: Way,
     pub pictures: usize,
     pub size: usize,
-}
-
-// The bytes of a picture in a file.
-fn picture_bytes(h: Header) -> usize {
-    12 * chroma_size(h.columns, h.pairs)
-}
-
-// The files that are opened once the one beside the output is made.
-fn opened(
-    rt: &HostRuntime,
-    names: Names,
+    base: Source,
+    enhancement: Source,
     output: File,
-    enhanced: bool,
-    pictures: usize,
-    size: usize,
-) -> Files {
-    Files {
-        base: open_argument(rt, names.base).ok(),
-        enhancement: if enhanced {
-            open_argument(rt, names.enhancement).ok()
-        } else {
-            None
-        },
-        output: output,
-        enhanced: enhanced,
-        pictures: pictures,
-        size: size,
-    }
 }
 
-// Opens the files of pictures with this header, which hold whole pictures, and makes the one beside the output; none,
-// having said why, where that cannot be. An enhancement that is not used is not even opened.
-pub fn open_files(rt: &HostRuntime, names: Names, h: Header) -> Option<Files> {
-    let size = picture_bytes(h);
-    let pictures = pictures_in(rt, names.base, size);
-    if pictures == 0 {
-        return None;
+impl<'a> Files<'a> {
+    // Opens the files of pictures with this header, which hold whole pictures, and makes the one beside the output; says
+    // why, where that cannot be. An enhancement that is not used is not even opened.
+    pub fn open(names: Names<'a>, way: Way, h: Header) -> Result<Self, Said> {
+        let size = 12 * chroma_size(h.columns, h.pairs);
+        let pictures = names.pictures(size)?;
+        let enhanced = names.is_enhanced(h);
+        if enhanced {
+            names.enhancement_fits()?;
+        }
+        say_task(names.output.rt, h, pictures, enhanced);
+        let created = names.output.create_beside();
+        let output = created.map_err(|error| names.say_unwritten(&error))?;
+        Ok(Files {
+            names,
+            way,
+            pictures,
+            size,
+            base: Source::open(names.base),
+            enhancement: if enhanced {
+                Source::open(names.enhancement)
+            } else {
+                Source::Unused
+            },
+            output,
+        })
     }
-    let enhanced = is_enhanced(rt, names.enhancement, h.disabled);
-    if enhanced {
-        if !fits(rt, names.enhancement, file_length(rt, names.base)) {
-            return None;
+
+    // Whether an enhancement is used.
+    pub fn is_enhanced(&self) -> bool {
+        !matches!(self.enhancement, Source::Unused)
+    }
+
+    // Loads the band; says why, where it cannot be read.
+    pub fn load(&self, band: Band, base: &mut [u16], enhancement: &mut [u16]) -> Result<(), Said> {
+        if self.base.load(band, base).is_err() {
+            return Err(say_ended(self.names.base));
+        }
+        if self.enhancement.load(band, enhancement).is_err() {
+            return Err(say_ended(self.names.enhancement));
+        }
+        Ok(())
+    }
+
+    // Stores the band; says why, where it cannot be written.
+    fn store_there(&self, band: Band, output: &[u16]) -> Result<(), Said> {
+        let stored = band.store(&self.output, output);
+        stored.map_err(|error| self.names.say_unwritten(&error))
+    }
+
+    // Stores a late group's band as it is before the enhancement comes: in the first of the picture's two.
+    pub fn store_early(&self, band: Band, output: &[u16]) -> Result<(), Said> {
+        self.store_there(band.moved(twice(band.start)), output)
+    }
+
+    // Stores the band as it is in the end: of a late group in the second of the picture's two.
+    pub fn store(&self, band: Band, output: &[u16]) -> Result<(), Said> {
+        let there = match self.way {
+            Way::Late => band.moved(twice(band.start).wrapping_add(self.size)),
+            _ => band,
+        };
+        self.store_there(there, output)
+    }
+
+    // How many pictures the output has: of a late group each of them twice, without the enhancement and then with it.
+    fn pictures_out(&self) -> Pictures {
+        match self.way {
+            Way::Late => Pictures(twice(self.pictures)),
+            _ => Pictures(self.pictures),
         }
     }
-    say_task(h, pictures, enhanced);
-    match create_beside(rt, names.output) {
-        Ok(output) => Some(opened(rt, names, output, enhanced, pictures, size)),
-        Err(error) => {
-            say_error(rt, names.output, error);
-            None
+
+    // Closes the files, once all that was written has reached the disk, where it is whole; says why where it has not.
+    fn keep(self, composed: Result<(), Said>) -> Result<(), Said> {
+        composed?;
+        let names = self.names;
+        let kept = self.output.sync_data();
+        kept.map_err(|error| names.say_unwritten(&error))
+    }
+
+    // Closes the files, and moves what was written into place, or removes it where it is not whole.
+    pub fn close(self, composed: Result<(), Said>) -> Result<(), Said> {
+        let names = self.names;
+        let pictures = self.pictures_out();
+        let kept = self.keep(composed);
+        let closed = kept.and_then(|()| finish(names, pictures));
+        if closed.is_err() {
+            names.output.remove_beside();
         }
+        closed
     }
-}
-
-fn say_error(rt: &HostRuntime, output: usize, error: Error) {
-    say_unwritten(rt, output, code_of(&error));
-}
-
-// Whether all that was written has reached the disk; says why where not.
-fn is_kept(rt: &HostRuntime, output: usize, file: &File) -> bool {
-    match file.sync_data() {
-        Ok(()) => true,
-        Err(error) => {
-            say_error(rt, output, error);
-            false
-        }
-    }
-}
-
-// Closes the files; whether what was written is whole and has reached the disk.
-fn closed(rt: &HostRuntime, output: usize, f: Files, whole: bool) -> bool {
-    if whole {
-        is_kept(rt, output, &f.output)
-    } else {
-        false
-    }
-}
-
-// Closes the files, and moves what was written into place, or removes it where it is not whole.
-pub fn close_files(rt: &HostRuntime, names: Names, way: Way, f: Files, whole: bool) -> bool {
-    let pictures = f.pictures;
-    if !closed(rt, names.output, f, whole) {
-        remove_beside(rt, names.output);
-        return false;
-    }
-    finish(rt, names.output, pictures_out(way, pictures))
-}
-
-// Loads the band where the file is there.
-fn load_there(file: &Option<File>, band: Band, run: &mut [u16]) -> bool {
-    match file {
-        Some(file) => load_band(file, band, run),
-        None => false,
-    }
-}
-
-// Loads the enhancement's band where one is used.
-fn load_used(used: bool, file: &Option<File>, band: Band, run: &mut [u16]) -> bool {
-    if used {
-        return load_there(file, band, run);
-    }
-    true
-}
-
-// Loads the band; false, having said why, where it cannot be read.
-pub fn load_runs(
-    rt: &HostRuntime,
-    names: Names,
-    band: Band,
-    f: &Files,
-    base: &mut [u16],
-    enhancement: &mut [u16],
-) -> bool {
-    if !load_there(&f.base, band, base) {
-        say_ended(rt, names.base);
-        return false;
-    }
-    if !load_used(f.enhanced, &f.enhancement, band, enhancement) {
-        say_ended(rt, names.enhancement);
-        return false;
-    }
-    true
 }
 
 // Twice a place or a number of pictures. No file reaches 2^63 bytes, so what is doubled here never wraps.
 fn twice(n: usize) -> usize {
-    wrapping_add_usize(n, n)
-}
-
-// How many pictures the output has: of a late group each of them twice, without the enhancement and then with it.
-fn pictures_out(way: Way, pictures: usize) -> usize {
-    if is_late(way) {
-        twice(pictures)
-    } else {
-        pictures
-    }
-}
-
-// The band of a picture that begins elsewhere.
-fn moved(band: Band, start: usize) -> Band {
-    let mut there = band;
-    there.start = start;
-    there
-}
-
-// Stores the band; false, having said why, where it cannot be written.
-fn store_there(rt: &HostRuntime, names: Names, band: Band, f: &Files, output: &[u16]) -> bool {
-    match store_band(&f.output, band, output) {
-        Ok(()) => true,
-        Err(error) => {
-            say_error(rt, names.output, error);
-            false
-        }
-    }
-}
-
-// Stores a late group's band as it is before the enhancement comes: in the first of the picture's two.
-pub fn store_early(rt: &HostRuntime, names: Names, band: Band, f: &Files, output: &[u16]) -> bool {
-    let first = moved(band, twice(band.start));
-    store_there(rt, names, first, f, output)
-}
-
-// Stores the band as it is in the end: of a late group in the second of the picture's two.
-pub fn store_run(
-    rt: &HostRuntime,
-    names: Names,
-    way: Way,
-    band: Band,
-    f: &Files,
-    output: &[u16],
-) -> bool {
-    if !is_late(way) {
-        return store_there(rt, names, band, f, output);
-    }
-    let second = moved(band, wrapping_add_usize(twice(band.start), f.size));
-    store_there(rt, names, second, f, output)
+    n.wrapping_mul(2)
 }
 
 // The file beside is whole: moves it into place, and says its check sum as it stands.
-fn finish(rt: &HostRuntime, output: usize, pictures: usize) -> bool {
-    let sum = sum_beside(rt, output);
-    if let Err(error) = move_into_place(rt, output) {
-        say_error(rt, output, error);
-        remove_beside(rt, output);
-        return false;
-    }
-    say_argument(rt, output);
-    say(b": ");
-    say_pictures(pictures);
-    say(b", Adler-32 ");
-    say_number(sum);
-    say(b"\n");
-    true
+fn finish(names: Names, pictures: Pictures) -> Result<(), Said> {
+    let output = names.output;
+    let sum = output.sum_beside();
+    let moved = output.move_into_place();
+    moved.map_err(|error| names.say_unwritten(&error))?;
+    say_word(output);
+    say!(output.rt; ": {pictures}, Adler-32 {sum}\n");
+    Ok(())
 }

@@ -1,37 +1,15 @@
 // Which sample of a refused job is too large.
 use crate::bands::Band;
-use crate::group::Names;
+use crate::names::Names;
 use crate::schedule::Named;
+use files::Word;
 use picture::chroma_size;
 use plan::Header;
-use saying::{say, say_advice, say_number, say_refused};
-use std::num::{wrapping_add_usize, wrapping_sub_usize};
+use refusals::Refusal;
+use saying::{Plane, Said, advice_of, say, say_refused};
 
-// The index of the first sample that is the limit or more, from `from` on; `to` where there is none before it.
-fn first_large(limit: u16, run: &[u16], from: usize, to: usize) -> usize {
-    let mut i = from;
-    while i < to {
-        if run.len() <= i {
-            return to;
-        }
-        if limit <= run[i] {
-            return i;
-        }
-        i += 1;
-    }
-    to
-}
-
-fn wide(x: u16) -> usize {
-    x as usize
-}
-
-fn sample(run: &[u16], i: usize) -> usize {
-    if i < run.len() { wide(run[i]) } else { 0 }
-}
-
-// The samples of a component that a job names: where they begin and end in the band's run, how wide a row is, how
-// many rows of the picture stand before the run's first, and where the component begins in the run.
+// The samples of a plane that a job names: where they begin and end in the band's run, how wide a row is, how many rows
+// of the picture stand before the run's first, and where the plane begins in the run.
 #[derive(Clone, Copy)]
 struct Part {
     from: usize,
@@ -41,107 +19,114 @@ struct Part {
     origin: usize,
 }
 
-// Component 0 is Y, with four samples for each of Cb's.
-fn named_part(b: Band, component: u8, j: Named) -> Part {
-    let n = chroma_size(b.columns, b.count);
-    let before = chroma_size(b.columns, j.first);
-    let named = chroma_size(b.columns, j.count);
-    if component == 0 {
-        return Part {
-            from: 4 * before,
-            to: 4 * before + 4 * named,
-            width: chroma_size(b.columns, 2),
-            above: chroma_size(b.first, 2),
-            origin: 0,
+impl Part {
+    // Y has four samples for each of Cb's.
+    fn of(plane: Plane, band: Band, named: Named) -> Part {
+        let n = chroma_size(band.columns, band.count);
+        let before = chroma_size(band.columns, named.first);
+        let count = chroma_size(band.columns, named.count);
+        let (size, doubled, origin) = match plane {
+            Plane::Y => (4, 2, 0),
+            Plane::Cb => (1, 1, 4 * n),
+            Plane::Cr => (1, 1, 5 * n),
         };
-    }
-    let origin = if component == 1 { 4 * n } else { 5 * n };
-    let from = wrapping_add_usize(origin, before);
-    Part {
-        from: from,
-        to: wrapping_add_usize(from, named),
-        width: chroma_size(b.columns, 1),
-        above: chroma_size(b.first, 1),
-        origin: origin,
-    }
-}
-
-fn say_component(component: u8) {
-    match component {
-        0 => say(b"Y row "),
-        1 => say(b"Cb row "),
-        _ => say(b"Cr row "),
+        let from = origin + size * before;
+        Part {
+            from,
+            to: from + size * count,
+            width: chroma_size(band.columns, doubled),
+            above: chroma_size(band.first, doubled),
+            origin,
+        }
     }
 }
 
-// Row and column of a sample, so far behind the component's first.
-fn say_place(behind: usize, width: usize, above: usize) {
-    if width == 0 {
-        return;
-    }
-    say_number(wrapping_add_usize(above, behind / width));
-    say(b" column ");
-    say_number(behind % width);
+// A sample that is too large, by its row and column in the picture's plane.
+#[derive(Clone, Copy)]
+struct Large {
+    plane: Plane,
+    row: usize,
+    column: usize,
+    sample: u16,
 }
 
-// Says the first sample of a component that is too large, where there is one.
-fn say_large(
-    rt: &HostRuntime,
-    i: usize,
-    b: Band,
-    p: Part,
-    component: u8,
-    limit: u16,
-    run: &[u16],
-) -> bool {
-    let k = first_large(limit, run, p.from, p.to);
-    if p.to <= k {
-        return false;
-    }
-    say_refused(rt, i, 11);
-    say(b": picture ");
-    say_number(b.picture);
-    say(b", ");
-    say_component(component);
-    say_place(wrapping_sub_usize(k, p.origin), p.width, p.above);
-    say(b" is ");
-    say_number(sample(run, k));
-    say(b", allowed less than ");
-    say_number(wide(limit));
-    say_advice(11);
-    true
+// A job that is refused: the row pairs that it names of a band, and the runs that it brings.
+#[derive(Clone, Copy)]
+pub struct RefusedJob<'a> {
+    pub names: Names<'a>,
+    pub header: Header,
+    pub band: Band,
+    pub named: Named,
+    pub base: &'a [u16],
+    pub enhancement: &'a [u16],
 }
 
-// Says the first sample of the job that is too large in one file, where there is one.
-fn say_largest(rt: &HostRuntime, i: usize, b: Band, j: Named, limit: u16, run: &[u16]) -> bool {
-    if say_large(rt, i, b, named_part(b, 0, j), 0, limit, run) {
-        return true;
+impl RefusedJob<'_> {
+    // What samples are to be less than.
+    fn limit(self) -> u16 {
+        match self.header.bl {
+            0 => 256,
+            _ => 1024,
+        }
     }
-    if say_large(rt, i, b, named_part(b, 1, j), 1, limit, run) {
-        return true;
-    }
-    say_large(rt, i, b, named_part(b, 2, j), 2, limit, run)
-}
 
-// Why a job is refused. No number but 11 can come of files whose lengths were tested and jobs that name the band's
-// own row pairs.
-pub fn say_sample(
-    rt: &HostRuntime,
-    names: Names,
-    b: Band,
-    h: Header,
-    number: u8,
-    j: Named,
-    base: &[u16],
-    enhancement: &[u16],
-) {
-    let limit = if h.bl == 0 { 256 } else { 1024 };
-    if number != 11 {
-        say_refused(rt, names.base, number);
-        say_advice(number);
-        return;
+    // The first sample of a plane that is too large, of those that the job names of a run.
+    fn large_in(self, plane: Plane, run: &[u16]) -> Option<Large> {
+        let limit = self.limit();
+        let part = Part::of(plane, self.band, self.named);
+        let named = run.get(part.from..part.to.min(run.len()))?;
+        let k = named.iter().position(|sample| limit <= *sample)?;
+        let behind = part.from.wrapping_add(k).wrapping_sub(part.origin);
+        Some(Large {
+            plane,
+            row: behind.checked_div(part.width)?.wrapping_add(part.above),
+            column: behind.checked_rem(part.width)?,
+            sample: *named.get(k)?,
+        })
     }
-    if !say_largest(rt, names.base, b, j, limit, base) {
-        say_largest(rt, names.enhancement, b, j, limit, enhancement);
+
+    // The first one of all planes.
+    fn first_large(self, run: &[u16]) -> Option<Large> {
+        for plane in Plane::ALL {
+            if let Some(large) = self.large_in(plane, run) {
+                return Some(large);
+            }
+        }
+        None
+    }
+
+    // Says the sample that is too large in one file.
+    fn say_large(self, word: Word, large: Large) -> Said {
+        let Large {
+            plane,
+            row,
+            column,
+            sample,
+        } = large;
+        let rule = Refusal::Sample;
+        let picture = self.band.picture;
+        say_refused(word, rule);
+        say!(word.rt; ": picture {picture}, {plane} row {row} column {column} is {sample}");
+        say!(word.rt; ", allowed less than {}; {}\n", self.limit(), advice_of(rule));
+        Said
+    }
+
+    // Says why. No rule but that of a sample can come of files whose lengths were tested and jobs that name the band's own
+    // row pairs.
+    pub fn say(self, rule: Refusal) -> Said {
+        let Names {
+            base,
+            enhancement,
+            ..
+        } = self.names;
+        if rule != Refusal::Sample {
+            say_refused(base, rule);
+            say!(base.rt; "; {}\n", advice_of(rule));
+        } else if let Some(large) = self.first_large(self.base) {
+            self.say_large(base, large);
+        } else if let Some(large) = self.first_large(self.enhancement) {
+            self.say_large(enhancement, large);
+        }
+        Said
     }
 }

@@ -3,146 +3,122 @@
 // without it compose the whole band before these.
 ghost use Rattle.std.specs.Prelude.{◌≤◌};
 
-use std::num::wrapping_add_u16;
-
-// How the bands of a group are sent.
-#[derive(Clone, Copy)]
-pub enum Way {
-    Whole, // by one job
-    Standby,
-    Late,
-}
-
-// The way that the words before a group ask for. A late group has its standby by itself.
-pub fn way_of(standby: bool, late: bool) -> Way {
-    if late {
-        return Way::Late;
-    }
-    if standby { Way::Standby } else { Way::Whole }
-}
-
-pub fn is_late(way: Way) -> bool {
-    match way {
-        Way::Late => true,
-        _ => false,
-    }
-}
-
-// Whether the jobs have eight row pairs; then each of them is said.
-pub fn is_said(way: Way) -> bool {
-    match way {
-        Way::Whole => false,
-        _ => true,
-    }
-}
-
 // Row pairs that a job names, counted from the band's first.
-#[derive(Clone, Copy)]
+#[derive(Clone, Copy, Debug, PartialEq, Eq)]
 pub struct Named {
     pub first: u16,
     pub count: u16,
+}
+
+impl Named {
+    // Job k of the n row pairs from `from` on, eight a job.
+    fn batch(from: u16, n: u16, k: u16) -> Named {
+        let before = k.saturating_mul(8);
+        if n <= before {
+            return Named {
+                first: from,
+                count: 0,
+            };
+        }
+        Named {
+            first: from.wrapping_add(before),
+            count: (n - before).min(8),
+        }
+    }
 }
 
 // How many jobs of eight row pairs n row pairs take.
 fn batches(n: u16) -> u16
     ensures { result ≤ 8192 }
 {
-    if n % 8 == 0 { n / 8 } else { n / 8 + 1 }
-}
-
-fn eight(left: u16) -> u16 {
-    if left < 8 { left } else { 8 }
-}
-
-// Job k of the n row pairs from `from` on.
-fn batch(from: u16, n: u16, k: u16) -> Named {
-    if n / 8 < k {
-        return Named {
-            first: from,
-            count: 0,
-        };
-    }
-    let before = 8 * k;
-    if n <= before {
-        return Named {
-            first: from,
-            count: 0,
-        };
-    }
-    Named {
-        first: wrapping_add_u16(from, before),
-        count: eight(n - before),
-    }
+    n.div_ceil(8)
 }
 
 // How many row pairs before the standby are sent again.
 fn in_flight(half: u16) -> u16
     ensures { result ≤ half }
 {
-    if half < 16 { half } else { 16 }
+    half.min(16)
 }
 
-// The number of the first job for which the enhancement is there.
-pub fn come_at(way: Way, n: u16) -> u16
-    ensures { result ≤ 8192 }
-{
-    if is_late(way) { batches(n) } else { 0 }
+// How the bands of a group are sent.
+#[derive(Clone, Copy, Debug, PartialEq, Eq)]
+pub enum Way {
+    Whole, // by one job
+    Standby,
+    Late,
 }
 
-// The number of the first job after the standby.
-pub fn standby_at(way: Way, n: u16) -> u16
-    ensures { result ≤ 16384 }
-{
-    come_at(way, n) + batches(n / 2)
-}
+impl Way {
+    // The way that the words before a group ask for. A late group has its standby by itself.
+    pub fn of(standby: bool, late: bool) -> Way {
+        match (standby, late) {
+            (_, true) => Way::Late,
+            (true, false) => Way::Standby,
+            (false, false) => Way::Whole,
+        }
+    }
 
-// The number of the first job after those that are sent again.
-fn rest_at(way: Way, n: u16) -> u16
-    ensures { result ≤ 24576 }
-{
-    standby_at(way, n) + batches(in_flight(n / 2))
-}
+    // Whether the jobs have eight row pairs; then each of them is said.
+    pub fn is_said(self) -> bool {
+        self != Way::Whole
+    }
 
-pub fn jobs_of(way: Way, n: u16) -> u16 {
-    if !is_said(way) {
-        return 1;
+    // The number of the first job for which the enhancement is there.
+    pub fn come_at(self, n: u16) -> u16
+        ensures { result ≤ 8192 }
+    {
+        match self {
+            Way::Late => batches(n),
+            _ => 0,
+        }
     }
-    rest_at(way, n) + batches(n - n / 2)
-}
 
-// Job k of a band of n row pairs.
-pub fn job_at(way: Way, n: u16, k: u16) -> Named {
-    if !is_said(way) {
-        return Named { first: 0, count: n };
+    // The number of the first job after the standby.
+    pub fn standby_at(self, n: u16) -> u16
+        ensures { result ≤ 16384 }
+    {
+        self.come_at(n) + batches(n / 2)
     }
-    let come = come_at(way, n);
-    if k < come {
-        return batch(0, n, k);
-    }
-    let half = n / 2;
-    let standby = standby_at(way, n);
-    if k < standby {
-        return batch(0, half, k - come);
-    }
-    let rest = rest_at(way, n);
-    if k < rest {
-        let again = in_flight(half);
-        return batch(half - again, again, k - standby);
-    }
-    batch(half, n - half, k - rest)
-}
 
-// Whether job k goes without the enhancement. In a late group those that are sent again do so too: after the standby
-// the base is there first.
-pub fn is_bare(way: Way, n: u16, k: u16) -> bool {
-    if !is_late(way) {
-        return false;
+    // The number of the first job after those that are sent again.
+    fn rest_at(self, n: u16) -> u16
+        ensures { result ≤ 24576 }
+    {
+        self.standby_at(n) + batches(in_flight(n / 2))
     }
-    if k < come_at(way, n) {
-        return true;
+
+    // How many jobs a band of n row pairs has.
+    pub fn jobs(self, n: u16) -> u16 {
+        match self {
+            Way::Whole => 1,
+            _ => self.rest_at(n) + batches(n - n / 2),
+        }
     }
-    if k < standby_at(way, n) {
-        return false;
+
+    // Job k of a band of n row pairs.
+    pub fn job(self, n: u16, k: u16) -> Named {
+        if self == Way::Whole {
+            return Named { first: 0, count: n };
+        }
+        let (come, standby, rest) = (self.come_at(n), self.standby_at(n), self.rest_at(n));
+        let half = n / 2;
+        if k < come {
+            Named::batch(0, n, k)
+        } else if k < standby {
+            Named::batch(0, half, k - come)
+        } else if k < rest {
+            let again = in_flight(half);
+            Named::batch(half - again, again, k - standby)
+        } else {
+            Named::batch(half, n - half, k - rest)
+        }
     }
-    k < rest_at(way, n)
+
+    // Whether job k goes without the enhancement. In a late group those that are sent again do so too: after the standby
+    // the base is there first.
+    pub fn is_bare(self, n: u16, k: u16) -> bool {
+        self == Way::Late
+            && (k < self.come_at(n) || (self.standby_at(n)..self.rest_at(n)).contains(&k))
+    }
 }

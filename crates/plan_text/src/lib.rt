@@ -4,17 +4,16 @@
 // No range is tested here: reading the block does that, so that no range stands twice.
 #![tactic(auto)]
 
+mod fault; // why a text is refused
+mod kind; // what there is to know of each field
 mod lines; // the line on which a byte's field stands
 mod making; // the bytes of a block, from its text
 mod number; // a number of a text
-mod putting; // bytes put one after the other
-mod reasons; // the words about a text that is refused
 mod showing; // the text of a block
-mod step; // the walk over the fields
-mod table; // what there is to know of each field
+mod walk; // the walk over the fields
 
+pub use fault::Refused;
 pub use lines::line_of;
-pub use making::{Made, make};
-pub use reasons::why;
+pub use making::make;
 pub use showing::show;
-pub use step::version_of;
+pub use walk::version_of;

@@ -1,206 +1,101 @@
 // The bytes of a block, from its text.
-use crate::number::{
-    DOES_NOT_FIT, LINE_END_EXPECTED, NAME_EXPECTED, NUMBER_EXPECTED, fault_of, number_at, raw,
-};
-use crate::putting::{byte_at, put, put_number};
-use crate::step::{Step, begun, count_of, next, start};
-use crate::table::{CUT, END, LEAD_ROOM, LINE_END, ROOM, put_lead, span_of, width_of};
-use std::num::{wrapping_add_usize, wrapping_sub_usize};
+use crate::fault::{Fault, Refused};
+use crate::kind::Kind;
+use crate::number::read_number;
+use crate::walk::{Turn, Walk};
 
-// What a text comes to: the length of the block's bytes, or the line and the reason why it is refused. `why` has the
-// words, for which the rest is kept: the field, where in the text a number stands that does not fit, and the number of
-// the component or the piece that was expected.
-#[derive(Clone, Copy)]
-pub struct Made {
-    pub length: usize,
-    pub line: usize,
-    pub reason: usize, // 0 where the text is not refused
-    pub field: usize,
-    pub from: usize,
-    pub to: usize,
-    pub expected: usize,
-}
-
-// A field of the text: what it holds, the place of its number and the one after it, and what is wrong with it.
-#[derive(Clone, Copy)]
-struct Field {
-    value: usize,
-    from: usize,
-    to: usize,
-    reason: usize,
-}
-
-fn no_field(reason: usize) -> Field {
-    Field {
-        value: 0,
-        from: 0,
-        to: 0,
-        reason: reason,
-    }
-}
-
-// How many of the first n bytes of a word stand at a place of the text, before one that does not.
-fn agreed(text: &[u8], at: usize, word: &[u8], n: usize) -> usize {
-    let mut i: usize = 0;
-    while i < n {
-        if byte_at(text, wrapping_add_usize(at, i)) != byte_at(word, i) {
-            break;
+// The text after what stands before the number of a field: the end of the line before and its name, where it begins a
+// line; one space.
+fn after_lead(text: &[u8], kind: Kind) -> Result<&[u8], Fault<'_>> {
+    let mut rest = text;
+    if kind.begins_line() {
+        if kind != Kind::Version {
+            rest = rest.strip_prefix(b"\n").ok_or(Fault::LineEndExpected)?;
         }
-        i += 1;
+        let name = kind.name().as_bytes();
+        rest = rest.strip_prefix(name).ok_or(Fault::NameExpected(kind))?;
     }
-    i
+    rest.strip_prefix(b" ").ok_or(Fault::NumberExpected(kind))
 }
 
-// What is wrong where this byte of what stands before a number is missing.
-fn reason_of(missing: u8) -> usize {
-    if missing == b'\n' {
-        LINE_END_EXPECTED
-    } else if missing == b' ' {
-        NUMBER_EXPECTED
-    } else {
-        NAME_EXPECTED
-    }
+// What a field's bytes hold, and the text after it.
+fn read_field(text: &[u8], kind: Kind, count: u8) -> Result<(u32, &[u8]), Fault<'_>> {
+    read_number(after_lead(text, kind)?, kind, count)
 }
 
-// The field of this step, at a place of the text: what stands before its number, and the number.
-fn field_at(text: &[u8], at: usize, s: Step) -> Field {
-    let mut lead = [0u8; LEAD_ROOM];
-    let n = put_lead(&mut lead, 0, s.kind);
-    let k = agreed(text, at, &lead, n);
-    if k < n {
-        return no_field(reason_of(byte_at(&lead, k)));
-    }
-    let from = wrapping_add_usize(at, n);
-    let x = number_at(text, from, s.kind);
-    Field {
-        value: raw(x, s.kind),
-        from: from,
-        to: x.end,
-        reason: fault_of(text, x, s),
+// Puts bytes into a block where it has room for them. The place at the end says whether there was room for all.
+fn put(block: &mut [u8], at: usize, bytes: &[u8]) {
+    if let Some(room) = block.get_mut(at..at.saturating_add(bytes.len())) {
+        room.copy_from_slice(bytes);
     }
 }
 
 // A field's bytes, and the zeros that go with it.
-fn put_field(block: &mut [u8], s: Step, value: usize) {
-    let span = span_of(s.kind);
-    if span == 0 {
-        return;
+fn put_field(block: &mut [u8], at: usize, kind: Kind, value: u32) {
+    if 0 < kind.span() {
+        let skipped = 4 - kind.width();
+        put(block, at, &[0u8; 8][..kind.span()]);
+        put(block, at, &value.to_be_bytes()[skipped..]);
     }
-    put_number(block, s.at, span, 0);
-    put_number(block, s.at, width_of(s.kind), value);
 }
 
 // The trailer, and the block's length. A section that was not begun has one byte, so that the trailer fits. Its first
-// four numbers say how far before it header and sections begin, 16 bits each.
-fn close(block: &mut [u8], s: Step) -> usize {
-    let mut t = s;
-    let mut k = s.component;
-    while k < 2 {
-        t = begun(t);
-        t.at = put(block, t.at, 0);
-        k += 1;
+// four numbers say how far before it header and sections begin.
+fn close(block: &mut [u8], last: Walk) -> usize {
+    let mut walk = last;
+    for _ in last.component..2 {
+        walk.begin();
+        put(block, walk.at, &[0]);
+        walk.at = walk.at.wrapping_add(1);
     }
-    let place = t.at % 65536;
-    put_number(
-        block,
-        place,
-        8,
-        wrapping_sub_usize(281479271743489 * place, t.starts),
-    );
-    put_number(block, place + 8, 4, 65536 * (t.version % 65536));
-    place + 12
+    let trailer = walk.at % 65536;
+    let mut at = trailer;
+    for start in walk.starts {
+        put(
+            block,
+            at,
+            &(trailer as u16).wrapping_sub(start).to_be_bytes(),
+        );
+        at = at.wrapping_add(2);
+    }
+    put(block, at, &walk.version.to_be_bytes());
+    put(block, at.wrapping_add(2), &[0, 0]);
+    trailer + 12
 }
 
-// Something else is expected than what a field may have wrong. The end of a line is that of the line before.
-fn expected(line: usize, what: usize) -> Made {
-    Made {
-        length: 0,
-        line: if what == LINE_END {
-            wrapping_sub_usize(line, 1)
-        } else {
-            line
+// What is wrong with the text that is left where the walk ended. A walk that was cut leaves it unread.
+fn ended(rest: &[u8], turn: Turn) -> Result<(), Fault<'_>> {
+    match turn {
+        Turn::Cut => Ok(()),
+        Turn::Field(kind) => Err(Fault::NameExpected(kind)),
+        Turn::End => match rest.strip_prefix(b"\n") {
+            None => Err(Fault::LineEndExpected),
+            Some(more) if more.is_empty() => Ok(()),
+            Some(_) => Err(Fault::TextEndExpected),
         },
-        reason: NAME_EXPECTED,
-        field: what,
-        from: 0,
-        to: 0,
-        expected: 0,
     }
 }
 
-// A text that is refused in this step, by what is wrong with its field.
-fn refused(s: Step, f: Field) -> Made {
-    if f.reason == LINE_END_EXPECTED {
-        return expected(s.line, LINE_END);
-    }
-    Made {
-        length: 0,
-        line: s.line,
-        reason: f.reason,
-        field: s.kind,
-        from: if f.reason == DOES_NOT_FIT {
-            f.from
-        } else {
-            f.to
-        },
-        to: f.to,
-        expected: count_of(s),
-    }
-}
-
-// What is expected at a place of the text where the walk ended; CUT where nothing is. A walk that was cut leaves the rest
-// of the text unread.
-fn expected_at_end(text: &[u8], at: usize, kind: usize) -> usize {
-    if kind != END {
-        return kind;
-    }
-    if byte_at(text, at) != b'\n' {
-        return LINE_END;
-    }
-    if wrapping_add_usize(at, 1) < text.len() {
-        return END;
-    }
-    CUT
-}
-
-// The walk ended in this step, at a place of the text.
-fn finished(text: &[u8], at: usize, s: Step, block: &mut [u8]) -> Made {
-    let what = expected_at_end(text, at, s.kind);
-    if what != CUT {
-        return expected(s.line, what);
-    }
-    let length = close(block, s);
-    if block.len() < length {
-        return expected(s.line, ROOM);
-    }
-    Made {
-        length: length,
-        line: 0,
-        reason: 0,
-        field: 0,
-        from: 0,
-        to: 0,
-        expected: 0,
-    }
-}
-
-// Reads a text into a block's bytes. A field takes two bytes of the text or more.
-pub fn make(text: &[u8], block: &mut [u8]) -> Made {
-    let mut s = start();
-    let mut at: usize = 0;
-    let mut fields: usize = 0;
-    while fields < text.len() {
-        if END <= s.kind {
+// Reads a text into a block's bytes, which are the first of the room. A field takes two bytes of the text or more.
+pub fn make<'t, 'b>(text: &'t [u8], room: &'b mut [u8]) -> Result<&'b [u8], Refused<'t>> {
+    let mut walk = Walk::start();
+    let mut rest = text;
+    for _ in 0..=text.len() {
+        let Turn::Field(kind) = walk.turn else {
             break;
-        }
-        let f = field_at(text, at, s);
-        if f.reason != 0 {
-            return refused(s, f);
-        }
-        put_field(block, s, f.value);
-        at = f.to;
-        s = next(s, f.value);
-        fields += 1;
+        };
+        let (value, after) = match read_field(rest, kind, walk.count(kind)) {
+            Ok(field) => field,
+            Err(fault) => return Err(Refused::at(walk.line, fault)),
+        };
+        put_field(room, walk.at, kind, value);
+        walk.advance(kind, value);
+        rest = after;
     }
-    finished(text, at, s, block)
+    if let Err(fault) = ended(rest, walk.turn) {
+        return Err(Refused::at(walk.line, fault));
+    }
+    let length = close(room, walk);
+    room.get(..length)
+        .ok_or(Refused::at(walk.line, Fault::RoomExpected))
 }

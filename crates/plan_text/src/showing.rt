@@ -1,35 +1,54 @@
 // The text of a block.
-use crate::number::{complement, greatest_of};
-use crate::putting::{put, put_decimal, put_if};
-use crate::step::{next, start, value_of};
-use crate::table::{END, put_lead};
+use crate::kind::Kind;
+use crate::walk::{Turn, Walk};
+use std::fmt;
+use std::io::Write;
 
-// Puts the number that the field's bytes hold as v.
-pub(crate) fn put_value(text: &mut [u8], at: usize, kind: usize, v: usize) -> usize {
-    let negative = greatest_of(kind) < v;
-    let signed = put_if(negative, text, at, b'-');
-    put_decimal(text, signed, if negative { complement(v, kind) } else { v })
+// What stands before the number of a field.
+#[derive(Clone, Copy)]
+struct Lead(Kind);
+
+impl fmt::Display for Lead {
+    fn fmt<W: fmt::Write>(&self, f: &mut fmt::Formatter<W>) -> fmt::Result {
+        let kind = self.0;
+        if kind == Kind::Version {
+            write!(f, "{} ", kind.name())
+        } else if kind.begins_line() {
+            write!(f, "\n{} ", kind.name())
+        } else {
+            f.write_str(" ")
+        }
+    }
 }
 
-// Puts the text of a block that reading accepts, whose bytes are the whole of `block`, and answers its length; 0 where
-// there is no room for it. A block has fewer fields than bytes.
-pub fn show(block: &[u8], text: &mut [u8]) -> usize {
-    let mut s = start();
-    let mut at: usize = 0;
-    let mut fields: usize = 0;
-    while fields < block.len() {
-        if END <= s.kind {
-            break;
+// The text of a block that reading accepts, whose bytes are the whole of the slice. A block has fewer fields than bytes.
+#[derive(Clone, Copy)]
+struct Text<'a>(&'a [u8]);
+
+impl fmt::Display for Text<'_> {
+    fn fmt<W: fmt::Write>(&self, f: &mut fmt::Formatter<W>) -> fmt::Result {
+        let mut walk = Walk::start();
+        for _ in self.0 {
+            let Turn::Field(kind) = walk.turn else {
+                break;
+            };
+            let value = walk.value_in(self.0, kind);
+            write!(f, "{}{}", Lead(kind), kind.number_of(value))?;
+            walk.advance(kind, value);
         }
-        let v = value_of(block, s);
-        let led = put_lead(text, at, s.kind);
-        at = put_value(text, led, s.kind, v);
-        s = next(s, v);
-        fields += 1;
+        match walk.turn {
+            Turn::End => f.write_str("\n"),
+            _ => Err(fmt::Error),
+        }
     }
-    let end = put(text, at, b'\n');
-    if (s.kind != END) | (text.len() < end) {
-        return 0;
-    }
-    end
+}
+
+// Puts the text of a block that reading accepts, whose bytes are the whole of the slice, into the first bytes of the
+// room; None where there is no room for it.
+pub fn show<'r>(block: &[u8], room: &'r mut [u8]) -> Option<&'r [u8]> {
+    let size = room.len();
+    let mut rest = &mut room[..];
+    write!(rest, "{}", Text(block)).ok()?;
+    let end = size.saturating_sub(rest.len());
+    room.get(..end)
 }

@@ -1,99 +1,90 @@
-// Why a file cannot be read or written, by the number that the system gives (errno).
-use crate::{end_line, say, say_argument, say_line, size};
-use files::code_of;
-use std::fs::File;
+// Why a file cannot be read or written.
+use crate::{Said, say, say_word};
+use files::Word;
+use std::fmt;
+use std::io::{Error, Result as IoResult};
 use std::os::unix::fs::FileExt;
 
-const ENOENT: i32 = 2;
+// An error by the number that the system gives it (errno).
+#[derive(Clone, Copy)]
+struct Cause(i32);
 
-const EACCES: i32 = 13;
+impl Cause {
+    const ENOENT: i32 = 2;
 
-const EEXIST: i32 = 17;
+    // Stands for an error that has no number: something could not be read or written.
+    const EIO: i32 = 5;
 
-const ENOTDIR: i32 = 20;
+    const EACCES: i32 = 13;
 
-const EISDIR: i32 = 21;
+    const EEXIST: i32 = 17;
 
-const EINVAL: i32 = 22;
+    const ENOTDIR: i32 = 20;
 
-const ENOSPC: i32 = 28;
+    const EISDIR: i32 = 21;
 
-const ESPIPE: i32 = 29;
+    const EINVAL: i32 = 22;
 
-// The line of the words below; there is none for other numbers.
-fn line_of(error: i32) -> usize {
-    match error {
-        ENOENT => 0,
-        EACCES => 1,
-        ENOTDIR => 2,
-        EISDIR => 3,
-        ENOSPC => 4,
-        ESPIPE => 5,
-        _ => 6,
+    const ENOSPC: i32 = 28;
+
+    const ESPIPE: i32 = 29;
+
+    fn of(error: &Error) -> Self {
+        Cause(error.raw_os_error().unwrap_or(Self::EIO))
     }
 }
 
-fn say_other(error: i32) {
-    say(b"error ");
-    io::print_decimal(1, size(error as i64));
-}
-
-pub fn say_error(error: i32) {
-    let line = line_of(error);
-    if line == 6 {
-        say_other(error);
-        return;
-    }
-    say_line(
-        b"no such file or folder\n\
-        no permission\n\
-        a folder of its path is a file\n\
-        it is a folder\n\
-        the disk is full\n\
-        it is a pipe, and a file is needed\n",
-        line,
-    );
-}
-
-// What keeps the first byte of an open file from being read; 0 where nothing does any more. A pipe has no first byte,
-// and is not waited for.
-fn error_of(file: &File) -> i32 {
-    let mut one = [0u8; 1];
-    match file.read_at(&mut one, 0) {
-        Ok(_) => 0,
-        Err(error) => code_of(&error),
+impl fmt::Display for Cause {
+    fn fmt<W: fmt::Write>(&self, f: &mut fmt::Formatter<W>) -> fmt::Result {
+        match self.0 {
+            Self::ENOENT => f.write_str("no such file or folder"),
+            Self::EACCES => f.write_str("no permission"),
+            Self::ENOTDIR => f.write_str("a folder of its path is a file"),
+            Self::EISDIR => f.write_str("it is a folder"),
+            Self::ENOSPC => f.write_str("the disk is full"),
+            Self::ESPIPE => f.write_str("it is a pipe, and a file is needed"),
+            other => write!(f, "error {}", other.unsigned_abs()),
+        }
     }
 }
 
-// Why the file cannot be read is found by trying it again.
-fn read_error(rt: &HostRuntime, i: usize) -> i32 {
-    match files::open_argument(rt, i) {
-        Ok(file) => error_of(&file),
-        Err(error) => code_of(&error),
-    }
+// Reads the first byte of the file again. A pipe has none, and is not waited for.
+fn read_first(word: Word) -> IoResult<usize> {
+    word.open()?.read_at(&mut [0u8; 1], 0)
 }
 
-pub fn say_unread(rt: &HostRuntime, i: usize) {
-    let error = read_error(rt, i);
-    say_argument(rt, i);
-    say(b": cannot be read: ");
-    say_error(error);
-    end_line();
+// Why the file cannot be read is found by trying it again; error 0 where nothing keeps it from that any more.
+pub fn say_unread(word: Word) -> Said {
+    let cause = match read_first(word) {
+        Ok(_) => Cause(0),
+        Err(error) => Cause::of(&error),
+    };
+    say_word(word);
+    say!(word.rt; ": cannot be read: {cause}\n");
+    Said
 }
 
-// Why the file that argument i names cannot be written, by the error of the call that failed; `program` writes it.
-pub fn say_unwritten(rt: &HostRuntime, i: usize, error: i32, program: &[u8]) {
-    say_argument(rt, i);
-    say(b": cannot be written: ");
-    if error == EEXIST {
-        say_argument(rt, i);
-        say(b".part is in the way: another ");
-        say(program);
-        say(b" writes it, or one was stopped; remove it");
-    } else if error == EINVAL {
-        say(b"it is no regular file");
+// That the file can be read; says why, where it cannot.
+pub fn need_readable(word: Word) -> Result<(), Said> {
+    if word.is_readable() {
+        Ok(())
     } else {
-        say_error(error);
+        Err(say_unread(word))
     }
-    end_line();
+}
+
+// Why the file that the word names cannot be written, by the error of the call that failed; `program` writes it.
+pub fn say_unwritten(word: Word, error: &Error, program: &str) -> Said {
+    let cause = Cause::of(error);
+    say_word(word);
+    say!(word.rt; ": cannot be written: ");
+    match cause.0 {
+        Cause::EEXIST => {
+            say_word(word);
+            say!(word.rt; ".part is in the way: another {program} writes it, or one was stopped; remove it\n");
+        }
+        Cause::EINVAL => say!(word.rt; "it is no regular file\n"),
+        _ => say!(word.rt; "{cause}\n"),
+    }
+    Said
 }

@@ -1,11 +1,11 @@
 // A column of the header (docs/RULES.md, "Header"): its name, what was found there and what is allowed.
-use crate::{say, say_line, say_number};
 use fields::numbers::{four, one, two};
 use frame::kinds::{
     BL_DEPTH, BRIGHTEST, COLUMNS, DARKEST, DENOMINATOR, DEPTHS, DISABLED, EL_DEPTH, HDR_DEPTH,
     LEVEL, PAIRS, PROFILE, ZERO_7, ZERO_14,
 };
 use plan::limits::{MOST_COLUMNS, MOST_D, MOST_LUMINANCE, MOST_PAIRS};
+use std::fmt;
 
 // A column's first byte.
 pub(crate) fn place_of(kind: u8) -> usize {
@@ -27,71 +27,75 @@ pub(crate) fn place_of(kind: u8) -> usize {
     }
 }
 
-// What stands there: the columns have one byte up to byte 7, two up to byte 15, and then four.
-fn value_at(head: &[u8], place: usize) -> usize {
-    if place < 8 {
-        one(head, place) as usize
-    } else if place < 16 {
-        two(head, place) as usize
-    } else {
-        four(head, place) as usize
-    }
-}
-
-// Both tables have a column's words at the line of its first byte.
-fn say_name(place: usize) {
-    say_line(
-        b"ccm_profile\nccm_level\ncoefficient_log2_denom\nBL_bit_depth_minus8\nEL_bit_depth_minus8\nhdr_bit_depth_minus8\n\
-        disable_residual_flag\nzero (byte 7)\nW/2\n\nH/2\n\nmax_display_mastering_luminance\n\nzero (bytes 14-15)\n\n\
-        min_display_mastering_luminance\n\n\n\nzero (bytes 20-23)\n",
-        place,
-    );
-}
-
-fn say_range(place: usize) {
-    say_line(
-        b"1, 3 or 4\n0\n\n0 or 2\n\n2 or 4\n0 or 1\n0\n1 to \n\n1 to \n\n0 to \n\n0\n\nless than \n\n\n\n0\n",
-        place,
-    );
-}
-
-fn say_depths(bl: u8) {
-    say_number(bl as usize);
-    say(b", as BL_bit_depth_minus8 is");
-}
-
-fn say_denominators(el: u8) {
-    say_number((el as usize) + 8 + 5);
-    say(b" to ");
-    say_number(MOST_D as usize);
-}
-
-// Both luminances in units of 0.0001 cd/m2.
-fn say_darkest(brightest: u16) {
-    say_number(10000 * (brightest as usize));
-}
-
-// The words that go by another number, or by a limit of the plan.
-fn say_limit(kind: u8, head: &[u8]) {
+fn name_of(kind: u8) -> &'static str {
     match kind {
-        EL_DEPTH => say(b"0 or 2"),
-        DEPTHS => say_depths(one(head, 3)),
-        DENOMINATOR => say_denominators(one(head, 4)),
-        COLUMNS => say_number(MOST_COLUMNS as usize),
-        PAIRS => say_number(MOST_PAIRS as usize),
-        BRIGHTEST => say_number(MOST_LUMINANCE as usize),
-        DARKEST => say_darkest(two(head, 12)),
-        _ => {}
+        PROFILE => "ccm_profile",
+        LEVEL => "ccm_level",
+        DENOMINATOR => "coefficient_log2_denom",
+        BL_DEPTH => "BL_bit_depth_minus8",
+        EL_DEPTH | DEPTHS => "EL_bit_depth_minus8",
+        HDR_DEPTH => "hdr_bit_depth_minus8",
+        DISABLED => "disable_residual_flag",
+        ZERO_7 => "zero (byte 7)",
+        COLUMNS => "W/2",
+        PAIRS => "H/2",
+        BRIGHTEST => "max_display_mastering_luminance",
+        ZERO_14 => "zero (bytes 14-15)",
+        DARKEST => "min_display_mastering_luminance",
+        _ => "zero (bytes 20-23)",
     }
 }
 
-// The column of this kind, in the header that begins `head`.
-pub(crate) fn say_column(kind: u8, head: &[u8]) {
-    let place = place_of(kind);
-    say_name(place);
-    say(b" is ");
-    say_number(value_at(head, place));
-    say(b", allowed ");
-    say_range(place);
-    say_limit(kind, head);
+// What stands there: the columns have one byte up to byte 7, two up to byte 15, and then four.
+fn value_at(head: &[u8], place: usize) -> u32 {
+    match place {
+        0..=7 => u32::from(one(head, place)),
+        8..=15 => u32::from(two(head, place)),
+        _ => four(head, place),
+    }
+}
+
+// What a column may hold, in the header that begins the bytes.
+#[derive(Clone, Copy)]
+struct Allowed<'a> {
+    kind: u8,
+    head: &'a [u8],
+}
+
+impl fmt::Display for Allowed<'_> {
+    fn fmt<W: fmt::Write>(&self, f: &mut fmt::Formatter<W>) -> fmt::Result {
+        match self.kind {
+            PROFILE => f.write_str("1, 3 or 4"),
+            DENOMINATOR => write!(f, "{} to {MOST_D}", u32::from(one(self.head, 4)) + 8 + 5),
+            BL_DEPTH | EL_DEPTH => f.write_str("0 or 2"),
+            DEPTHS => write!(f, "{}, as BL_bit_depth_minus8 is", one(self.head, 3)),
+            HDR_DEPTH => f.write_str("2 or 4"),
+            DISABLED => f.write_str("0 or 1"),
+            COLUMNS => write!(f, "1 to {MOST_COLUMNS}"),
+            PAIRS => write!(f, "1 to {MOST_PAIRS}"),
+            BRIGHTEST => write!(f, "0 to {MOST_LUMINANCE}"),
+            // Both luminances in units of 0.0001 cd/m2.
+            DARKEST => write!(f, "less than {}", 10000 * u32::from(two(self.head, 12))),
+            _ => f.write_str("0"),
+        }
+    }
+}
+
+// The column of this kind, in the header that begins the bytes.
+#[derive(Clone, Copy)]
+pub(crate) struct Column<'a> {
+    pub(crate) kind: u8,
+    pub(crate) head: &'a [u8],
+}
+
+impl fmt::Display for Column<'_> {
+    fn fmt<W: fmt::Write>(&self, f: &mut fmt::Formatter<W>) -> fmt::Result {
+        let name = name_of(self.kind);
+        let value = value_at(self.head, place_of(self.kind));
+        let allowed = Allowed {
+            kind: self.kind,
+            head: self.head,
+        };
+        write!(f, "{name} is {value}, allowed {allowed}")
+    }
 }

@@ -1,70 +1,117 @@
 // Where the parts of a block stand: in its bytes, which are the last ones of a file, and in the file.
-use crate::{end_line, say, say_line, say_number};
-use fields::numbers::two;
-use std::num::wrapping_add_usize;
+use crate::say;
+use files::Word;
+use frame::{Trailer, read_trailer};
+use std::fmt;
 
-// The bytes from a place on; none past the end.
-pub(crate) fn rest(bytes: &[u8], place: usize) -> &[u8] {
-    if place <= bytes.len() {
-        return &bytes[place..];
-    }
-    &bytes[..0]
+#[derive(Clone, Copy, Debug, PartialEq, Eq)]
+pub enum Plane {
+    Y,
+    Cb,
+    Cr,
 }
 
-// The trailer's first byte.
-pub(crate) fn trailer_at(bytes: &[u8]) -> usize {
-    if bytes.len() < 12 {
-        0
-    } else {
-        bytes.len() - 12
-    }
-}
+impl Plane {
+    pub const ALL: [Plane; 3] = [Plane::Y, Plane::Cb, Plane::Cr];
 
-// Number k of the trailer: A, D0, D1, D2, the version and the zero.
-pub fn trailer_number(bytes: &[u8], k: usize) -> usize {
-    if 5 < k {
-        return 0;
-    }
-    two(rest(bytes, trailer_at(bytes)), 2 * k) as usize
-}
-
-// Where part k begins: the header, section 0, 1 or 2, or the trailer.
-pub(crate) fn part_at(bytes: &[u8], k: usize) -> usize {
-    let t = trailer_at(bytes);
-    if 3 < k {
-        return t;
-    }
-    let distance = trailer_number(bytes, k);
-    if distance <= t { t - distance } else { 0 }
-}
-
-// The block alone, from its header on, of bytes that reading accepts.
-pub fn block_of(bytes: &[u8]) -> &[u8] {
-    rest(bytes, part_at(bytes, 0))
-}
-
-// How many bytes stand before these, the last ones, in the file that argument i names.
-pub fn bytes_before(rt: &HostRuntime, i: usize, bytes: &[u8]) -> usize {
-    let length = files::file_length(rt, i);
-    if length < bytes.len() {
-        0
-    } else {
-        length - bytes.len()
+    // The plane whose section has this number.
+    pub(crate) fn of_section(number: usize) -> Option<Plane> {
+        Plane::ALL.get(number).copied()
     }
 }
 
-// A place of the bytes, as one of the file. No file is so long that the sum wraps.
-pub(crate) fn say_place(place: usize, before: usize) {
-    say_number(wrapping_add_usize(before, place));
+impl fmt::Display for Plane {
+    fn fmt<W: fmt::Write>(&self, f: &mut fmt::Formatter<W>) -> fmt::Result {
+        f.write_str(match self {
+            Plane::Y => "Y",
+            Plane::Cb => "Cb",
+            Plane::Cr => "Cr",
+        })
+    }
 }
 
-// A line that says where part k stands in the file.
-pub fn say_part(k: usize, bytes: &[u8], before: usize) {
-    say_line(
-        b"header\nsection 0, Y,\nsection 1, Cb,\nsection 2, Cr,\ntrailer\n",
-        k,
-    );
-    say(b" at byte ");
-    say_place(part_at(bytes, k), before);
-    end_line();
+// A part of a block: a section for each plane stands between header and trailer.
+#[derive(Clone, Copy, Debug, PartialEq, Eq)]
+pub enum Part {
+    Header,
+    Section(Plane),
+    Trailer,
+}
+
+impl fmt::Display for Part {
+    fn fmt<W: fmt::Write>(&self, f: &mut fmt::Formatter<W>) -> fmt::Result {
+        match *self {
+            Part::Header => f.write_str("header"),
+            Part::Section(plane) => write!(f, "section {}, {plane},", plane as usize),
+            Part::Trailer => f.write_str("trailer"),
+        }
+    }
+}
+
+// The last bytes of a file, which may be a block, and how many stand before them there.
+#[derive(Clone, Copy)]
+pub struct LastBytes<'a> {
+    pub bytes: &'a [u8],
+    pub before: usize,
+}
+
+impl<'a> LastBytes<'a> {
+    // Those of the file that the word names.
+    pub fn of(word: Word, bytes: &'a [u8]) -> Self {
+        LastBytes {
+            bytes,
+            before: word.file_length().saturating_sub(bytes.len()),
+        }
+    }
+
+    // The bytes from a place on; none past the end.
+    pub(crate) fn rest(self, place: usize) -> &'a [u8] {
+        self.bytes.get(place..).unwrap_or(&[])
+    }
+
+    // The trailer's first byte.
+    pub(crate) fn trailer_at(self) -> usize {
+        self.bytes.len().saturating_sub(12)
+    }
+
+    pub fn trailer(self) -> Trailer {
+        read_trailer(self.rest(self.trailer_at()))
+    }
+
+    // Where a part begins.
+    pub(crate) fn begin_of(self, part: Part) -> usize {
+        let trailer = self.trailer();
+        let distance = match part {
+            Part::Header => trailer.a,
+            Part::Section(Plane::Y) => trailer.d0,
+            Part::Section(Plane::Cb) => trailer.d1,
+            Part::Section(Plane::Cr) => trailer.d2,
+            Part::Trailer => 0,
+        };
+        self.trailer_at().saturating_sub(usize::from(distance))
+    }
+
+    // Where the section of a plane ends, which is where the next part begins.
+    pub(crate) fn end_of(self, plane: Plane) -> usize {
+        self.begin_of(match plane {
+            Plane::Y => Part::Section(Plane::Cb),
+            Plane::Cb => Part::Section(Plane::Cr),
+            Plane::Cr => Part::Trailer,
+        })
+    }
+
+    // The block alone, from its header on, of bytes that reading accepts.
+    pub fn block(self) -> &'a [u8] {
+        self.rest(self.begin_of(Part::Header))
+    }
+
+    // A place of the bytes, as one of the file. No file is so long that the sum wraps.
+    pub(crate) fn in_file(self, place: usize) -> usize {
+        self.before.wrapping_add(place)
+    }
+
+    // A line that says where a part stands in the file.
+    pub fn say_part(self, rt: &HostRuntime, part: Part) {
+        say!(rt; "{part} at byte {}\n", self.in_file(self.begin_of(part)));
+    }
 }

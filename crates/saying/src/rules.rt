@@ -1,69 +1,75 @@
-// The rules of docs/RULES.md, "Refusals": their names, and what to do about each. A rule's number is its line; line 0
-// is none's.
-use crate::{end_line, say, say_argument, say_line, say_number};
+// The rules of docs/RULES.md, "Refusals": their names, and what to do about each.
+use crate::{say, say_word};
+use files::Word;
+use refusals::Refusal;
 
-fn say_name(number: usize) {
-    say_line(
-        b"\nshort\ntrailer\nlength\nheader\nfield\nreserved\nplan\nticket\nrun\nrows\nsample\nroom\nmethod\n",
-        number,
-    );
+const RULES: [Refusal; 13] = [
+    Refusal::Short,
+    Refusal::Trailer,
+    Refusal::Length,
+    Refusal::Header,
+    Refusal::Field,
+    Refusal::Reserved,
+    Refusal::Plan,
+    Refusal::Ticket,
+    Refusal::Run,
+    Refusal::Rows,
+    Refusal::Sample,
+    Refusal::Room,
+    Refusal::Method,
+];
+
+// The rule of this number, where it is one's.
+pub fn rule_of(number: u8) -> Option<Refusal> {
+    RULES.into_iter().find(|rule| rule.number() == number)
 }
 
-fn say_what_to_do(number: usize) {
-    say_line(
-        b"\n\
-        hand over the whole block, up to its last byte\n\
-        this is no composing block, or one of a later version\n\
-        the block was cut or joined wrongly: ask the sender\n\
-        a picture or a profile that this composer does not do\n\
-        the block's maker has a fault: tell them the field and the byte\n\
-        not given\n\
-        use a plan as reading gave it, or keep to the ranges of a block\n\
-        a late job of another picture: drop it\n\
-        hand over whole pictures of this size\n\
-        name row pairs of this picture\n\
-        the decoder handed over a broken picture\n\
-        lend a slice of the block's length or more\n\
-        compose this plan without a table\n",
-        number,
-    );
+pub(crate) fn name_of(rule: Refusal) -> &'static str {
+    match rule {
+        Refusal::Short => "short",
+        Refusal::Trailer => "trailer",
+        Refusal::Length => "length",
+        Refusal::Header => "header",
+        Refusal::Field => "field",
+        Refusal::Reserved => "reserved",
+        Refusal::Plan => "plan",
+        Refusal::Ticket => "ticket",
+        Refusal::Run => "run",
+        Refusal::Rows => "rows",
+        Refusal::Sample => "sample",
+        Refusal::Room => "room",
+        Refusal::Method => "method",
+    }
 }
 
-pub(crate) fn say_number_and_name(number: u8) {
-    say(b": refused ");
-    say_number(number as usize);
-    say(b" (");
-    say_name(number as usize);
-    say(b")");
+// What to do about a refusal, which ends the line about it.
+pub fn advice_of(rule: Refusal) -> &'static str {
+    match rule {
+        Refusal::Short => "hand over the whole block, up to its last byte",
+        Refusal::Trailer => "this is no composing block, or one of a later version",
+        Refusal::Length => "the block was cut or joined wrongly: ask the sender",
+        Refusal::Header => "a picture or a profile that this composer does not do",
+        Refusal::Field => "the block's maker has a fault: tell them the field and the byte",
+        Refusal::Reserved => "not given",
+        Refusal::Plan => "use a plan as reading gave it, or keep to the ranges of a block",
+        Refusal::Ticket => "a late job of another picture: drop it",
+        Refusal::Run => "hand over whole pictures of this size",
+        Refusal::Rows => "name row pairs of this picture",
+        Refusal::Sample => "the decoder handed over a broken picture",
+        Refusal::Room => "lend a slice of the block's length or more",
+        Refusal::Method => "compose this plan without a table",
+    }
 }
 
-// The begin of the line about a refused file, which argument i names: what was found comes next, and then the advice.
-pub fn say_refused(rt: &HostRuntime, i: usize, number: u8) {
-    say_argument(rt, i);
-    say_number_and_name(number);
-}
-
-// The end of that line.
-pub fn say_advice(number: u8) {
-    say(b"; ");
-    say_what_to_do(number as usize);
-    end_line();
-}
-
-fn say_rule(number: usize) {
-    say_number(number);
-    say(b" ");
-    say_name(number);
-    say(b": ");
-    say_what_to_do(number);
-    end_line();
+// The begin of the line about a refused file, which the word names: what was found comes next, and then the advice.
+pub fn say_refused(word: Word, rule: Refusal) {
+    say_word(word);
+    say!(word.rt; ": refused {} ({})", rule.number(), name_of(rule));
 }
 
 // All rules, one a line.
-pub fn say_rules() {
-    let mut number: usize = 1;
-    while number < 14 {
-        say_rule(number);
-        number += 1;
+pub fn say_rules(rt: &HostRuntime) {
+    for rule in RULES {
+        say!(rt; "{} {}: {}\n", rule.number(), name_of(rule), advice_of(rule));
     }
 }

@@ -101,19 +101,17 @@ fn say_same(a: &[u8], b: &[u8]) {
 // A block's text is made a block again, and that is shown again: whether block and text are the same as before.
 fn say_made_again(block: &[u8], text: &[u8]) {
     let mut bytes = [0u8; BLOCK_ROOM];
-    let n = plan_text::make(text, &mut bytes).length;
-    let made = part_of(&bytes, 0, n);
+    let made = plan_text::make(text, &mut bytes).unwrap_or(&[]);
     say_same(block, made);
     let mut room = [0u8; TEXT_ROOM];
-    let shown = plan_text::show(made, &mut room);
-    say_same(text, part_of(&room, 0, shown));
+    let shown = plan_text::show(made, &mut room).unwrap_or(&[]);
+    say_same(text, shown);
 }
 
 // The length and the check sum of a block's text.
 fn say_text(block: &[u8]) {
     let mut room = [0u8; TEXT_ROOM];
-    let shown = plan_text::show(block, &mut room);
-    let text = part_of(&room, 0, shown);
+    let text = plan_text::show(block, &mut room).unwrap_or(&[]);
     io::write_all(1, b" ");
     say_number(text.len());
     io::print_decimal(1, sum_of(text));

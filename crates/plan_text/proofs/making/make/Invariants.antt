@@ -1,8 +1,0 @@
-use Rattle.std.proofs.Common.{◌≡◌, ◌-◌, length}
-use Rattle.plan_text.proofs.making.make.Given as goal
-
-abbrev pub invariant-loop-fields : goal.invariant-loop-fields
-invariant-loop-fields l = length l.block ≡ length l.initial.block
-
-abbrev pub decreases-loop-fields : goal.decreases-loop-fields
-decreases-loop-fields l = length l.text - l.fields
