@@ -3,8 +3,6 @@ pub mod Apart
 pub mod Sizes
 pub mod Parts
 pub mod Beside
-pub mod Codes
-pub mod Within
 pub mod Two
 pub mod Pairs
 pub mod Prepared

@@ -17,7 +17,7 @@ use Rattle.picture.specs.inner.Planes.{row_start, in_rows}
 use Rattle.picture.proofs.Rows.{rows_none, rows_same, rows_beside}
 use Rattle.mmr.specs.declared.both.Both.{Both}
 use Rattle.mmr.specs.declared.inputs.Inputs.{Inputs}
-use Rattle.mmr.specs.inner.Columns.{cb_column, cr_column, row_value, two_rows, PlaceGiven}
+use Rattle.mmr.specs.inner.Columns.{cb_column, cr_column, row_value, two_rows}
 use Rattle.mmr.specs.inner.Rows.{place_of, of_both, plane_value, RowsGiven}
 
 -- the place of an index in a plane, by the row pair where it lies
@@ -58,14 +58,6 @@ module _ {p : Planes} {first last n : ℕ} (g : RowsGiven p first last n) where
         luma = omega (arith, mul-le-mul_left p.y.row h, mul-add p.y.row k 1, g.luma);
         inside = omega (arith, mul-le-mul_left p.cr.row h, mul-add p.cr.row k 1, g.inside);
       }
-
-pub pair_place : {p : Planes} {k n : ℕ} → RowsGiven p k (k + 1) n → PlaceGiven (place_of p k) n
-pair_place {p} {k} {n} g =
-    record {
-      luma = omega (arith, next_start p.y k, g.luma_columns, g.luma);
-      apart = omega (arith, next_start p.cb k, g.apart);
-      inside = omega (arith, next_start p.cr k, g.same_columns, g.inside);
-    }
 
 module _ (b : Both) (v : Inputs) (p : Planes) where
   -- a value by its row pair is the plane's

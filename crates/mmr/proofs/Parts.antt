@@ -8,7 +8,7 @@ use lib.Pow.{pow_pos, pow_mono}
 use lib.IntN.{ℤ, pos, nat_abs, ◌-ℤ◌, ◌*ℤ◌}
 use lib.Signed.{shr_z}
 use mir.Syntax.{w64}
-use mir.Val.{SFits, to_z, of_z}
+use mir.Val.{to_z, of_z}
 use Rattle.words.proofs.Holding.{Holds, bounded, number, shr, sub, mul}
 use Rattle.mmr.specs.inner.Apart.{coef, fraction}
 use Rattle.mmr.proofs.Ring.{fraction_lt, left_over}
@@ -24,9 +24,6 @@ parts d row i = fraction (coef row i) (2 ^ d)
 module _ (d : ℕ) (h : d ≤ 32) where
   exact : (1 * 2 ^ d) % 2 ^ 64 ≡ 2 ^ d
   exact = mod-eq_of_lt (omega (arith, pow_mono {j = 32} h)) ∙ one-mul (2 ^ d)
-
-  pub unit_fits : SFits w64 (pos ((1 * 2 ^ d) % 2 ^ 64))
-  unit_fits = record { sfits = omega (arith, exact, pow_mono {j = 32} h) }
 
   pub unit : Holds ((1 * 2 ^ d) % 2 ^ 64) (pos (2 ^ d)) (2 ^ 32)
   unit = record { is = (number {a = 2 ^ 32} (omega (arith, exact, pow_mono {j = 32} h)) tt).is ∙ ap pos exact; le = pow_mono h }

@@ -50,9 +50,6 @@ module _ (p : Plan) (e : PlanReady p) where
   pub ready_header : HeaderFacts h
   ready_header = header-kept h tests.0
 
-  pub y_few : count_fits p.y.n ≡ true
-  y_few = (both (count_fits p.y.n) _ tests.1).0
-
   pub cb_few : count_fits p.cb.n ≡ true
   cb_few = (both (count_fits p.cb.n) _ (both (count_fits p.y.n) _ tests.1).1).0
 

@@ -92,6 +92,7 @@ fn wide_most(d: u8) -> u64
     65536u64 << (d as u32)
 }
 
+#[tactic(auto, unfolding(crate::specs::inner::Ready::kind_by))]
 fn kind_of(d: u8, idc: u8, order: u8, row: &[i64; ROW]) -> Kind
     requires { d ≤ 32 }
     ensures { result ≡ kind_by d idc order row.now }

@@ -1,20 +1,20 @@
 -- `mmr::both_of` meets its contract. Assumes nothing.
 use borrow.Author.Tests.{leb-true}
-use Rattle.plan.specs.Ranges.{most_n}
+use Rattle.std.proofs.Common.{◌≡◌, ℕ, ◌≤◌, true}
+use Rattle.plan.specs.declared.Plan.{Plan}
+use Rattle.plan.specs.Ranges.{most_n, count_fits}
+use Rattle.mmr.specs.inner.Chroma.{PlanReady}
 use Rattle.mmr.proofs.Whole.{ready_header, cb_few, cr_few, both_given}
 use Rattle.mmr.proofs.both_of.Goals as goal
 
-pub of-requires : goal.of-requires
-of-requires c =
-    let p = c.args.p.now in
-    let r = c.requires.ready in
-    record { few = ((ready_header p r).shallow, leb-true _ most_n (cb_few p r)); arrays = c.requires.sized.cb }
+few : (p : Plan) {n : ℕ} → PlanReady p → count_fits n ≡ true → (p.header.d ≤ 32) × (n ≤ most_n)
+few p {n} r h = ((ready_header p r).shallow, leb-true n most_n h)
 
-pub of-requires-2 : goal.of-requires-2
-of-requires-2 c =
-    let p = c.args.p.now in
-    let r = c.requires.ready in
-    record { few = ((ready_header p r).shallow, leb-true _ most_n (cr_few p r)); arrays = c.requires.sized.cr }
+pub of-requires-clause-few : goal.of-requires-clause-few
+of-requires-clause-few c = few c.args.p.now c.requires.ready (cb_few c.args.p.now c.requires.ready)
+
+pub of-requires-2-clause-few : goal.of-requires-2-clause-few
+of-requires-2-clause-few c = few c.args.p.now c.requires.ready (cr_few c.args.p.now c.requires.ready)
 
 pub invariant_of-result : goal.invariant_of-result
 invariant_of-result c =

@@ -51,9 +51,8 @@ returns-then-not-runs_fit c =
     no_pictures a.plan a.first a.last a.inputs.now a.output.now (sym c.numbers_fit.ensures ∙ c.if-not-numbers_fit.false) (sym c.pairs_fit.ensures ∙ c.if-not-pairs_fit.false) (sym c.runs_fit.ensures ∙ c.if-not-runs_fit.true)
 
 -- the tests that pass
-pub both_of-both-requires : goal.both_of-both-requires
-both_of-both-requires c =
-    record { ready = sym c.numbers_fit.ensures ∙ c.if-not-numbers_fit.false; sized = sized c.args.plan _ c.well_formed.0 }
+pub both_of-both-requires-clause-sized : goal.both_of-both-requires-clause-sized
+both_of-both-requires-clause-sized c = sized c.args.plan _ c.well_formed.0
 
 pub compose_rows-requires : goal.compose_rows-requires
 compose_rows-requires c =

@@ -1,17 +1,16 @@
 -- `mmr::format_of` meets its contract. Assumes nothing.
-use borrow.Author.Tests.{leb-true}
 use mathlib.Core.Path.{◌≡◌, refl}
 use Prim.Native.Nat.{ℕ, ◌+◌, ◌*◌, ◌%◌, ◌^◌, ◌≤◌, max}
 use native.Mathlib.Omega.{arith}
 use lib.Pow.{pow_mono}
 use Rattle.plan.specs.declared.Plan.{Plan}
-use Rattle.plan.specs.Ranges.{most_n, bl_depth}
+use Rattle.plan.specs.Ranges.{bl_depth}
 use Rattle.plan.specs.Rule7.{pieces_used}
 use Rattle.plan.proofs.Shifting.{one_shifted}
 use Rattle.mmr.specs.declared.format.Ends.{Ends}
 use Rattle.mmr.specs.inner.Ready.{Highest}
 use Rattle.mmr.specs.inner.Chroma.{ends_of, FormatFor, PlanReady}
-use Rattle.mmr.proofs.Whole.{ready_header, y_few, cb_few, cr_few, higher_of, higher_of_second}
+use Rattle.mmr.proofs.Whole.{ready_header, higher_of, higher_of_second}
 use Rattle.mmr.proofs.format_of.Goals as goal
 
 shallow : (p : Plan) → PlanReady p → p.header.bl ≤ 2
@@ -28,21 +27,6 @@ made p codes order a b y cb cr e o f g h s t =
 
 pub returns : goal.returns
 returns c = made c.args.p.now _ _ _ _ _ _ _ (all c.args.p.now c.requires) c.max.ensures c.of.ensures c.of-2.ensures c.of-3.ensures c.highest_order.ensures c.highest_order-2.ensures
-
-pub highest_order-requires : goal.highest_order-requires
-highest_order-requires c = leb-true _ most_n (cb_few c.args.p.now c.requires)
-
-pub highest_order-requires-2 : goal.highest_order-requires-2
-highest_order-requires-2 c = leb-true _ most_n (cr_few c.args.p.now c.requires)
-
-pub of-requires : goal.of-requires
-of-requires c = leb-true _ most_n (y_few c.args.p.now c.requires)
-
-pub of-requires-2 : goal.of-requires-2
-of-requires-2 c = leb-true _ most_n (cb_few c.args.p.now c.requires)
-
-pub of-requires-3 : goal.of-requires-3
-of-requires-3 c = leb-true _ most_n (cr_few c.args.p.now c.requires)
 
 pub overflow_shl-result : goal.overflow_shl-result
 overflow_shl-result c = omega (arith, shallow c.args.p.now c.requires)

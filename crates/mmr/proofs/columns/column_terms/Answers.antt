@@ -1,23 +1,8 @@
 -- `mmr::columns::column_terms` meets its contract. Assumes nothing.
 use Prim.Native.Nat.{◌+◌, ◌*◌}
 use Rattle.mmr.specs.inner.Columns.{column_terms}
-use Rattle.mmr.proofs.Codes.{code_low}
 use Rattle.mmr.proofs.Listing.{terms_cong}
 use Rattle.mmr.proofs.columns.column_terms.Goals as goal
-
-pub terms_of-requires : goal.terms_of-requires
-terms_of-requires c =
-    let f = c.args.both.now.format in
-    let g = c.args.both.now.given.format in
-    record {
-      order_bound = (g.some_order, g.few_orders);
-      terms_given = record {
-        shallow = g.shallow;
-        s0_low = code_low f g _ c.luma_code-s0.ensures.1;
-        s1_low = code_low f g _ c.code_of-s1.ensures.1;
-        s2_low = code_low f g _ c.code_of-s2.ensures.1;
-      };
-    }
 
 pub returns-clause-terms : goal.returns-clause-terms
 unfolding column_terms

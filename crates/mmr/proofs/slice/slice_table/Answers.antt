@@ -7,9 +7,8 @@ use Rattle.mmr.proofs.slice.slice_table.Goals as goal
 pub returns-then-not-numbers_fit : goal.returns-then-not-numbers_fit
 returns-then-not-numbers_fit c = no_slice c.args.plan c.args.cr (sym c.numbers_fit.ensures ∙ c.if-not-numbers_fit.true)
 
-pub both_of-both-requires : goal.both_of-both-requires
-both_of-both-requires c =
-    record { ready = sym c.numbers_fit.ensures ∙ c.if-not-numbers_fit.false; sized = sized c.args.plan _ c.well_formed.0 }
+pub both_of-both-requires-clause-sized : goal.both_of-both-requires-clause-sized
+both_of-both-requires-clause-sized c = sized c.args.plan _ c.well_formed.0
 
 pub returns : goal.returns
 returns c =

@@ -4,7 +4,7 @@ use Prim.Native.Nat.{ℕ, ◌^◌}
 use lib.IntN.{pos, ◌+ℤ◌, ◌*ℤ◌}
 use mir.Syntax.{w64}
 use mir.Val.{of_z}
-use Rattle.words.proofs.Holding.{Holds, bounded, number, literal, add, add_asked, mul, mul_asked}
+use Rattle.words.proofs.Holding.{Holds, bounded, number, literal, add, add_asked, mul}
 use Rattle.steps.specs.inner.Steps.{cut_by}
 use Rattle.steps.proofs.Small.{is_cut}
 use Rattle.mmr.specs.inner.Apart.{coef, narrow_most}
@@ -21,25 +21,6 @@ linear st = number st.requires.d_bound.1 tt
 
 square : (c : After-high-square) → Holds c.high-square.result (pos c.high-square.result) (2 ^ 20)
 square c = number c.high-square.ensures.1 tt
-
-pub overflow_mul-row : goal.overflow_mul-row
-overflow_mul-row c = let st : Start = c.before.before in
-    mul_asked (row st 0) (literal 1048576 tt) tt
-
-pub overflow_mul-row-2 : goal.overflow_mul-row-2
-overflow_mul-row-2 c = let st : Start = c.before.before.before in
-    mul_asked (row st 1) (linear st) tt
-
-pub overflow_add-row : goal.overflow_add-row
-overflow_add-row c =
-    let st : Start = c.before.before.before in
-    add_asked (mul (row st 0) (literal 1048576 tt) tt) (mul (row st 1) (linear st) tt) tt
-
-pub overflow_mul-row-3 : goal.overflow_mul-row-3
-overflow_mul-row-3 c =
-    let st : Start = c.before.before.before.before in
-    let q : After-high-square = c.before.before.before in
-    mul_asked (row st 2) (square q) tt
 
 pub overflow_add-row-2 : goal.overflow_add-row-2
 overflow_add-row-2 c =

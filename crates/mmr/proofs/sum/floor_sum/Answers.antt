@@ -55,10 +55,6 @@ pub loop-i-init : goal.loop-i-init
 loop-i-init c =
     (whole_none (wholes c.args.d c.args.row.now) (at c.args.ts.now.tt), part_none (parts c.args.d c.args.row.now) (at c.args.ts.now.tt))
 
-pub overflow_cast-whole-in-loop-i : goal.overflow_cast-whole-in-loop-i
-overflow_cast-whole-in-loop-i c =
-    record { sfits = omega (arith, c.args.ts.now.low c.loop-i.i) }
-
 pub overflow_mul-whole : goal.overflow_mul-whole
 overflow_mul-whole c =
     let il : In-loop-i = c.before.before.before.before in
@@ -68,12 +64,6 @@ pub overflow_add-whole : goal.overflow_add-whole
 overflow_add-whole c =
     let il : In-loop-i = c.before.before.before.before in
     add_asked (so_far c.before.before.before.before.before) (mul (w il) (t il) tt) tt
-
-pub part_of-requires : goal.part_of-requires
-part_of-requires c =
-    let i = c.loop-i.i in
-    let g = c.requires in
-    (g.d_bound, rw (coefficient c.args.d g.d_bound (coef c.args.row.now i) (g.sum_given.coefficient i)).is (g.sum_given.coefficient i))
 
 pub overflow_add-part : goal.overflow_add-part
 overflow_add-part c =

@@ -1,11 +1,11 @@
-use mathlib.Core.Path.{◌≡◌, ap, ◌∙◌}
+use mathlib.Core.Path.{◌∙◌}
 use Prim.Native.Nat.{◌*◌, ◌^◌, ◌≤◌}
 use native.Mathlib.Nat.{le_trans, mul-le-mul_right}
 use native.Mathlib.Omega.{arith}
 use lib.IntN.{pos}
 use mir.Syntax.{w64}
 use mir.Val.{of_z}
-use Rattle.words.proofs.Holding.{Holds, bounded, number, add, add_asked, mul, mul_asked}
+use Rattle.words.proofs.Holding.{Holds, bounded, number, add, add_asked, mul}
 use Rattle.runs.specs.inner.Loops.{at}
 use Rattle.mmr.specs.inner.Apart.{coef, whole_sum, narrow_most}
 use Rattle.mmr.proofs.Apart.{whole_none, whole_more}
@@ -28,11 +28,6 @@ so_far lp =
       le = le_trans (whole_sum_le (coef lp.args.row.now) (at lp.args.ts.now.tt) narrow_most lp.requires.coefficient lp.args.ts.now.low lp.loop-i.i) (mul-le-mul_right (narrow_most * 2 ^ 20) l);
     }
 
-pub overflow_mul-sum : goal.overflow_mul-sum
-overflow_mul-sum c =
-    let il : In-loop-i = c.before.before.before.before in
-    mul_asked (w il) (t il) tt
-
 pub overflow_add-sum : goal.overflow_add-sum
 overflow_add-sum c =
     let il : In-loop-i = c.before.before.before.before in
@@ -44,16 +39,6 @@ loop-i-preserved c =
     let a = c.args in
     (add (so_far c.before.before.before.before.before) (mul (w il) (t il) tt) tt).is ∙ whole_more (coef a.row.now) (at a.ts.now.tt) c.loop-i.i
 
-pub returns : goal.returns
-returns c =
-    let a = c.args in
-    let e : c.loop-i.i ≡ a.count = omega arith in
-    c.loop-i.invariant ∙ ap (whole_sum (coef a.row.now) (at a.ts.now.tt)) e
-
 pub loop-i-init : goal.loop-i-init
 loop-i-init c =
     whole_none (coef c.args.row.now) (at c.args.ts.now.tt)
-
-pub overflow_cast-sum : goal.overflow_cast-sum
-overflow_cast-sum c =
-    record { sfits = omega (arith, c.args.ts.now.low c.loop-i.i) }

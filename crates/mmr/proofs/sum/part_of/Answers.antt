@@ -1,13 +1,9 @@
 use mathlib.Core.Path.{ap}
 use native.Mathlib.Omega.{arith}
 use lib.IntN.{nat_abs}
-use Rattle.words.proofs.Holding.{sub_asked, mul, mul_asked}
-use Rattle.mmr.proofs.Parts.{unit_fits, unit, part_low, coefficient, whole, part}
+use Rattle.words.proofs.Holding.{sub_asked, mul}
+use Rattle.mmr.proofs.Parts.{unit, part_low, coefficient, whole, part}
 use Rattle.mmr.proofs.sum.part_of.Goals as goal
-
-pub overflow_mul-result : goal.overflow_mul-result
-overflow_mul-result c =
-    mul_asked (whole c.args.d c.requires.0 c.args.c c.requires.1) (unit c.args.d c.requires.0) tt
 
 pub overflow_sub-result : goal.overflow_sub-result
 overflow_sub-result c =
@@ -21,7 +17,3 @@ overflow_cast-result-4 c =
 pub returns : goal.returns
 returns c =
     ap nat_abs (part c.args.d c.requires.0 c.args.c c.requires.1)
-
-pub overflow_cast-result-3 : goal.overflow_cast-result-3
-overflow_cast-result-3 c =
-    unit_fits c.args.d c.requires.0

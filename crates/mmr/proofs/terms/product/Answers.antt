@@ -1,17 +1,11 @@
 use Prim.Native.Nat.{◌*◌, ◌^◌, ◌≤◌}
 use native.Mathlib.Omega.{arith}
-use lib.Pow.{pow_mono}
 use Rattle.mmr.proofs.Sizes.{product_le}
 use Rattle.mmr.proofs.terms.product.Goals.{Start}
 use Rattle.mmr.proofs.terms.product.Goals as goal
 
 both : (st : Start) → st.args.x * st.args.y ≤ 2 ^ (2 * st.args.depth)
 both st = product_le st.args.depth st.args.x st.args.y st.requires.1 st.requires.2
-
-pub overflow_mul-x : goal.overflow_mul-x
-overflow_mul-x c =
-    let st : Start = c in
-    omega (arith, both st, pow_mono {i = 2 * c.args.depth} {j = 20} (omega arith))
 
 pub raise-requires : goal.raise-requires
 raise-requires c =
