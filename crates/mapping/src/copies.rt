@@ -18,7 +18,7 @@ pub(crate) struct Polynomial {
     pub(crate) order: u8,
 }
 
-// The order of a polynomial, less 1; of another method one that no polynomial has.
+// The order of a polynomial, less 1; of another method one that no polynomial has: one test then finds both.
 fn order_by(idc: u8, order: u8) -> u8
     ensures { result ≡ order_by idc order }
 {

@@ -23,6 +23,7 @@ fn shifted(x: u64, shift: u32) -> i64
     (x << shift) as i64
 }
 
+// What is asked here, and below, is of a depth, a sample and a row together: no one of them could carry it.
 // The sum over the three coefficients of a row; one that the piece's order does not use is 0 and adds nothing.
 fn sum_of(depth: u32, s: u16, row: [i64; 3]) -> i64
     requires { RowRanges depth s row }

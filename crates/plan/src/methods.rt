@@ -4,7 +4,7 @@ ghost use Rattle.plan.specs.Methods.{method};
 ghost use Rattle.plan.specs.Ranges.{integer_limit};
 ghost use Rattle.plan.specs.Rule7.{coefficients_used};
 
-// A block and a plan carry the number.
+// The number, as a block and a plan carry it.
 pub const MMR: u8 = 1;
 
 #[derive(Clone, Copy, PartialEq, Eq)]
@@ -26,7 +26,7 @@ impl Method {
     }
 }
 
-// The greatest mapping_idc of component k: luma has no MMR.
+// The greatest mapping_idc of component k, which is counted where a block or a text is walked: luma, 0, has no MMR.
 pub fn most_idc(k: usize) -> u8
     ensures { result ≡ cond (eqb k 0) 0 1 }
 {

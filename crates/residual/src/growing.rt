@@ -51,7 +51,8 @@ fn raised_by(out: u32, shift: u32, most: u64, dq: i64) -> u32
     held - (536870912 - 131072 - (power(15 - out) as u32))
 }
 
-// The codes from `from` up to, but not including, `to`, on the side of the offset that `sign` says.
+// The codes from `from` up to, but not including, `to`, on the side of the offset that `sign` says: -1 or 1, which
+// the distance is scaled with.
 pub(crate) fn go_on(table: &mut [u32; 1024], from: u16, to: u16, depths: Depths, q: Nlq, sign: i64)
     requires { OneSide depths from to q sign × (length table.old ≡ 1024) }
     ensures { table.new ≡ painted (between from to) (raised_code depths.out depths.el depths.d q) table.old }

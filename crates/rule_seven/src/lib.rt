@@ -15,7 +15,8 @@ use plan::ranges::FittingHeader;
 use plan::{Component, Header, Nlq, Plan};
 use ranges::nlq_fits;
 
-// Whether component k of a plan can be computed with, for whoever is handed a component alone. Its pieces are read where
+// Whether component k of a plan can be computed with, for whoever is handed a component alone: k is a number, as the
+// definitions and those who count the three components have it. Its pieces are read where
 // they lie: a component is large, and to hand it on is to copy it. Pieces that are used, and those that are not, are two
 // loops whose turns go by n: one loop over all places would be unrolled, and the array taken apart byte by byte.
 #[tactic(auto, using(crate::proofs::Whole::too_many))]
@@ -42,20 +43,28 @@ pub fn is_usable(k: usize, h: Header, c: Component) -> bool
     pivots & (fit & residual)
 }
 
-// Rule 7: whether a plan that is handed in keeps every range and has 0 in every unused place. A component is named on its
-// way to its test: it is then handed on where it lies in the plan, and not copied.
-#[tactic(auto, using(crate::proofs::Whole::each))]
-pub fn passes(plan: Plan) -> bool
-    ensures { result ≡ fitting plan }
+// Whether each component of a plan can be computed with: luma, and chroma as the components `cb` and `cr`. A component is
+// named on its way to its test, and this is inlined: it is then handed on where it lies in the plan, and not copied.
+#[inline(always)]
+fn each_usable(plan: Plan, cb: usize, cr: usize) -> bool
+    ensures { result ≡ (usable 0 plan.header plan.y && (usable cb plan.header plan.cb && usable cr plan.header plan.cr)) }
 {
     let h = plan.header;
     let y = plan.y;
     let luma = is_usable(0, h, y);
-    let cb = plan.cb;
-    let blue = is_usable(1, h, cb);
-    let cr = plan.cr;
-    let red = is_usable(2, h, cr);
+    let c = plan.cb;
+    let blue = is_usable(cb, h, c);
+    let c = plan.cr;
+    let red = is_usable(cr, h, c);
     luma & (blue & red)
+}
+
+// Rule 7: whether a plan that is handed in keeps every range and has 0 in every unused place.
+#[tactic(auto, using(crate::proofs::Whole::each))]
+pub fn passes(plan: Plan) -> bool
+    ensures { result ≡ fitting plan }
+{
+    each_usable(plan, 1, 2)
 }
 
 // The same, and no piece is MMR: each component is one that luma could be.
@@ -63,17 +72,10 @@ pub fn passes(plan: Plan) -> bool
 pub fn all_polynomials(plan: Plan) -> bool
     ensures { result ≡ (fitting plan && not (has_mmr plan)) }
 {
-    let h = plan.header;
-    let y = plan.y;
-    let luma = is_usable(0, h, y);
-    let cb = plan.cb;
-    let blue = is_usable(0, h, cb);
-    let cr = plan.cr;
-    let red = is_usable(0, h, cr);
-    luma & (blue & red)
+    each_usable(plan, 0, 0)
 }
 
-// The same of its inverse quantization, which asks nothing of the pieces.
+// Whether an inverse quantization can be computed with, which asks nothing of the pieces.
 pub fn quantizes(h: Header, q: Nlq) -> bool
     ensures { result ≡ (header_fits h && nlq_fits h q) }
 {

@@ -12,6 +12,7 @@ use plan::ranges::FittingHeader;
 // The most coefficients of a polynomial.
 const POLYNOMIAL: usize = 3;
 
+// Under the definition's name, for both kinds of rows.
 fn is_zero(z: i64) -> bool
     ensures { result ≡ is_zero z }
 {
@@ -28,7 +29,8 @@ fn coefficient_place(h: FittingHeader, idc: u8, used: bool, z: i64) -> bool
     }
 }
 
-// Place by place, whatever is used.
+// Place by place, whatever is used. The method, how many places are used and the row come together three times, and would be
+// put into a struct for each piece only to be taken out again.
 fn places_fit(h: FittingHeader, idc: u8, used: usize, row: &[i64; ROW]) -> bool
     ensures { result ≡ row_fits h.header idc used row.now }
 {
