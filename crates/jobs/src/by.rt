@@ -28,9 +28,9 @@ pub trait Composer: Copy {
         ensures writes { output.new ≡ output_after (given_work (source self) plan work.entry) marks.now output.old };
 }
 
-// Composes the row pairs of its work and marks them: all of them as full where the flag is 1 or an enhancement is used,
-// and otherwise as base only those that are not full already. Refused by one of the rules 7 to 13, 8 and 9 on the marks before
-// those of composing but for 7, it writes nothing.
+// Composes the row pairs of its work and marks them: all of them as full where the flag is 1 or an enhancement is used, and
+// otherwise as base only those that are not full already. Refused by the first rule met of 7, 8, 9 on the marks, and those of
+// composing, it writes nothing.
 pub fn job_by<C: Composer>(
     composer: C,
     plan: Plan,

@@ -32,9 +32,10 @@ pub returns-in_err-compose : goal.returns-in_err-compose
 returns-in_err-compose g c =
     let a = c.args in
     let j = job_work (g.C.Composer.source a.composer) a.plan a.open_ticket a.ticket a.work in
+    let ticketed : a.ticket ≡ a.open_ticket = omega arith in
     let fit = eqb-true _ _ (sym c.is_marked.ensures ∙ c.if-not-is_marked.false) in
     let p = err_from_is_err_and c.from_residual.result c.from_residual.ensures.1 in
-    let e = composing_refused j a.output.now a.marks.now c.if-ticket-open_ticket.false fit _ _ c.in_err-compose.ensures.answers c.in_err-compose.ensures.writes in
+    let e = composing_refused j a.output.now a.marks.now ticketed fit _ _ c.in_err-compose.ensures.answers c.in_err-compose.ensures.writes in
     record { answers = rw (p.1, p.2) e.0; writes = e.1.0; marking = e.1.1 }
 
 pub overflow_add-last : goal.overflow_add-last
@@ -48,10 +49,11 @@ pub returns : goal.returns
 returns g c =
     let a = c.args in
     let j = job_work (g.C.Composer.source a.composer) a.plan a.open_ticket a.ticket a.work in
+    let ticketed : a.ticket ≡ a.open_ticket = omega arith in
     let fit = eqb-true _ _ (sym c.is_marked.ensures ∙ c.if-not-is_marked.false) in
     let passed = sym (said_number j.work (length a.output.now) (Ok tt) c.in_ok-compose.ensures.answers) in
     let i = accepted j.work (length a.output.now) passed in
-    let e = composing_done j a.output.now a.marks.now c.if-ticket-open_ticket.false fit _ c.waiting-left.result c.base_only.result _ _
+    let e = composing_done j a.output.now a.marks.now ticketed fit _ c.waiting-left.result c.base_only.result _ _
     passed c.makes_full-full.ensures c.in_ok-compose.ensures.writes
     (c.mark.ensures ∙ all-marked _ _ _ _ (omega arith) (omega (arith, i.sizes.pairs, fit))) c.waiting-left.ensures c.base_only.ensures in
     record { answers = e.0; writes = e.1.0; marking = e.1.1 }
