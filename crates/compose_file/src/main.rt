@@ -31,6 +31,7 @@ fn main(rt: HostRuntime) {
     let standby = word(1).is("--standby");
     let mut i = if standby { 2 } else { 1 };
     let mut missing = words <= i;
+    // Four words or five are a group, so no range has the first ones.
     while i < words {
         let late = word(i).is("--late");
         let first = if late { i + 1 } else { i };

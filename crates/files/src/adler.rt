@@ -42,6 +42,7 @@ impl Sums {
 pub(crate) fn adler32(file: &File, wanted: u64) -> u32 {
     let mut sums = Sums::START;
     let mut left = wanted;
+    // No range counts the parts: only after a read is it known how many bytes it brought.
     while 0 < left {
         let mut bytes = [0u8; PART];
         let n = read_full(file, &mut bytes);

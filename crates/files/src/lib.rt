@@ -81,6 +81,7 @@ pub(crate) fn read_full(file: &File, bytes: &mut [u8]) -> usize
 {
     let mut read = file;
     let mut done: usize = 0;
+    // No range counts the reads: only after one is it known how many bytes it brought.
     while done < bytes.len() {
         let n = read.read(&mut bytes[done..]).unwrap_or(0);
         if n == 0 {

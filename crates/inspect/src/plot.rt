@@ -165,40 +165,52 @@ fn table_of(plan: &Plan, plane: Plane) -> [u16; 1024] {
     }
 }
 
-// Plots the panel of a component, so far below the picture's upper edge. Where it is a slice, the other chroma component
-// is held at the middle code.
-fn plot_panel(rt: &HostRuntime, top: u16, plane: Plane, other: Plane, version: u16, plan: &Plan) {
-    let c = component_of(plan, plane);
-    let table = table_of(plan, plane);
-    let depth = Depth::of(plan);
-    let curve = Curve {
-        table: &table,
-        depth,
-    };
-    let last = depth.last_code();
-    let (least, greatest) = curve.ends();
-    let preds = preds_of(c);
-    let count = pieces_of(c, version).len();
-    let pieces = Pieces {
-        preds,
-        count,
-        depth,
-    };
-    say!(rt; "<g transform=\"translate(70 {top})\"><text class=\"t\" y=\"-28\">{plane}: pieces {count}");
-    say!(rt; ", codes 0 to {last}, mapped samples {least} to {greatest}");
-    if has_mmr(c) {
-        say!(rt; ", luma and {other} at {}", last / 2 + 1);
+// Where the picture is said, and what of.
+#[derive(Clone, Copy)]
+struct Plot<'a> {
+    rt: &'a HostRuntime,
+    version: u16,
+    plan: &'a Plan,
+}
+
+impl Plot<'_> {
+    // Says the panel of a component, so far below the picture's upper edge. Where it is a slice, the other chroma component
+    // is held at the middle code.
+    fn panel(self, top: u16, plane: Plane, other: Plane) {
+        let Plot { rt, version, plan } = self;
+        let c = component_of(plan, plane);
+        let table = table_of(plan, plane);
+        let depth = Depth::of(plan);
+        let last = depth.last_code();
+        let curve = Curve {
+            table: &table,
+            depth,
+        };
+        let (least, greatest) = curve.ends();
+        let preds = preds_of(c);
+        let count = pieces_of(c, version).len();
+        let pieces = Pieces {
+            preds,
+            count,
+            depth,
+        };
+        say!(rt; "<g transform=\"translate(70 {top})\"><text class=\"t\" y=\"-28\">{plane}: pieces {count}");
+        say!(rt; ", codes 0 to {last}, mapped samples {least} to {greatest}");
+        if has_mmr(c) {
+            say!(rt; ", luma and {other} at {}", last / 2 + 1);
+        }
+        say!(rt; "</text><text y=\"-9\">pivots{}\n{PANEL}", Pivots(preds));
+        say!(rt; "{pieces}{GRID}<path class=\"v\" d=\"M{curve}\"/>");
+        say!(rt; "<path class=\"x\" d=\"{}\"/>{AXES}{last}</text></g>\n", Cut(curve));
     }
-    say!(rt; "</text><text y=\"-9\">pivots{}\n{PANEL}", Pivots(preds));
-    say!(rt; "{pieces}{GRID}<path class=\"v\" d=\"M{curve}\"/>");
-    say!(rt; "<path class=\"x\" d=\"{}\"/>{AXES}{last}</text></g>\n", Cut(curve));
 }
 
 // The picture of a plan's block, of this version. Luma has no MMR pieces.
 pub(crate) fn plot_block(rt: &HostRuntime, version: u16, plan: &Plan) {
+    let plot = Plot { rt, version, plan };
     say!(rt; "{START}");
-    plot_panel(rt, 58, Plane::Y, Plane::Cr, version, plan);
-    plot_panel(rt, 356, Plane::Cb, Plane::Cr, version, plan);
-    plot_panel(rt, 654, Plane::Cr, Plane::Cb, version, plan);
+    plot.panel(58, Plane::Y, Plane::Cr);
+    plot.panel(356, Plane::Cb, Plane::Cr);
+    plot.panel(654, Plane::Cr, Plane::Cb);
     say!(rt; "{END}");
 }

@@ -84,18 +84,15 @@ pub fn make<'t, 'b>(text: &'t [u8], room: &'b mut [u8]) -> Result<&'b [u8], Refu
         let Turn::Field(kind) = walk.turn else {
             break;
         };
-        let (value, after) = match read_field(rest, kind, walk.count(kind)) {
-            Ok(field) => field,
-            Err(fault) => return Err(Refused::at(walk.line, fault)),
-        };
+        let field = read_field(rest, kind, walk.count(kind));
+        let (value, after) = field.map_err(|fault| Refused::at(walk.line, fault))?;
         put_field(room, walk.at, kind, value);
         walk.advance(kind, value);
         rest = after;
     }
-    if let Err(fault) = ended(rest, walk.turn) {
-        return Err(Refused::at(walk.line, fault));
-    }
+    let line = walk.line;
+    ended(rest, walk.turn).map_err(|fault| Refused::at(line, fault))?;
     let length = close(room, walk);
-    room.get(..length)
-        .ok_or(Refused::at(walk.line, Fault::RoomExpected))
+    let block = room.get(..length);
+    block.ok_or(Refused::at(line, Fault::RoomExpected))
 }
