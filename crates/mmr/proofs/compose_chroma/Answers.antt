@@ -57,7 +57,7 @@ both_of-both-requires-clause-sized c = sized c.args.plan _ c.well_formed.0
 pub compose_rows-requires : goal.compose_rows-requires
 compose_rows-requires c =
     let a = c.args in
-    let g = rows_in a.plan (sym c.numbers_fit.ensures ∙ c.if-not-numbers_fit.false) a.first a.last _ _ _ (sym c.pairs_fit.ensures ∙ c.if-not-pairs_fit.false) (sym c.runs_fit.ensures ∙ c.if-not-runs_fit.false) (c.planes_of.ensures ∙ ap planes c.extent_of.ensures) in
+    let g = rows_in a.plan (sym c.numbers_fit.ensures ∙ c.if-not-numbers_fit.false) a.first a.last _ _ _ (sym c.pairs_fit.ensures ∙ c.if-not-pairs_fit.false) (sym c.runs_fit.ensures ∙ c.if-not-runs_fit.false) (c.planes.ensures ∙ ap planes c.extent_of.ensures) in
     record { base = g.0; enhancement = g.1.0; output = g.1.1 }
 
 pub returns : goal.returns
@@ -65,5 +65,5 @@ returns c =
     let a = c.args in
     let b = c.both_of-both in
     c.compose_rows.ensures
-    ∙ plan_painted a.plan b.result a.inputs.now b.ensures.format b.ensures.cb b.ensures.cr (c.planes_of.ensures ∙ ap planes c.extent_of.ensures) a.first a.last a.output.now
+    ∙ plan_painted a.plan b.result a.inputs.now b.ensures.format b.ensures.cb b.ensures.cr (c.planes.ensures ∙ ap planes c.extent_of.ensures) a.first a.last a.output.now
     ∙ all_there a.plan a.first a.last a.inputs.now a.output.now (sym c.numbers_fit.ensures ∙ c.if-not-numbers_fit.false) (sym c.pairs_fit.ensures ∙ c.if-not-pairs_fit.false) (sym c.runs_fit.ensures ∙ c.if-not-runs_fit.false)
