@@ -1,59 +1,48 @@
 // What is lent lies between guards, which nobody may touch: 16 places on each side, and whatever lies behind.
-use crate::next_number;
+const SIDE: usize = 16;
 
-// What a room of samples has before a part of it is lent.
-pub const GUARD: u16 = 55555;
-
-fn guard_marks(room: &mut [u8]) {
-    let mut i: usize = 0;
-    while i < room.len() {
-        room[i] = 170;
-        i += 1;
-    }
+// A room of which a part is lent.
+#[derive(Drop)]
+pub struct Guarded<'a, T> {
+    guard: T,
+    before: &'a mut [T],
+    lent: &'a mut [T],
+    behind: &'a mut [T],
 }
 
-// The marks before the first call, put between the guards; answers how many there are, at most 48.
-pub fn next_marks(room: &mut [u8]) -> usize {
-    guard_marks(room);
-    let m = next_number().value;
-    if 48 < m {
-        return 0;
+impl<'a, T: Copy + PartialEq> Guarded<'a, T> {
+    // Fills the room with guards; none where it has no place for so many values and the guards.
+    pub fn new(room: &'a mut [T], guard: T, count: usize) -> Option<Guarded<'a, T>> {
+        // `fill` would ask of T that its clone cannot fail, which a bound does not say
+        for place in room.iter_mut() {
+            *place = guard;
+        }
+        let (before, rest) = room.split_at_mut_checked(SIDE)?;
+        let (lent, behind) = rest.split_at_mut_checked(count)?;
+        if behind.len() < SIDE {
+            return None;
+        }
+        Some(Guarded {
+            guard,
+            before,
+            lent,
+            behind,
+        })
     }
-    if room.len() < 80 {
-        return 0;
-    }
-    io::read_full(0, &mut room[16..16 + m]);
-    m
-}
 
-// Whether place i is lent, where n places from 16 on are.
-fn is_lent(i: usize, n: usize) -> bool {
-    if i < 16 {
-        return false;
+    pub fn lent(&self) -> &[T] {
+        &*self.lent
     }
-    i - 16 < n
-}
 
-pub fn samples_kept(room: &[u16], n: usize) -> bool {
-    let mut kept = true;
-    let mut i: usize = 0;
-    while i < room.len() {
-        kept = kept & (is_lent(i, n) | (room[i] == GUARD));
-        i += 1;
+    pub fn lend(&mut self) -> &mut [T] {
+        &mut *self.lent
     }
-    kept
-}
 
-pub fn marks_kept(room: &[u8], n: usize) -> bool {
-    let mut kept = true;
-    let mut i: usize = 0;
-    while i < room.len() {
-        kept = kept & (is_lent(i, n) | (room[i] == 170));
-        i += 1;
+    // Whether all guards are as they were.
+    pub fn is_kept(&self) -> bool {
+        let guard = self.guard;
+        let before = &*self.before;
+        let behind = &*self.behind;
+        before.iter().chain(behind).all(|place| *place == guard)
     }
-    kept
-}
-
-pub fn say_touched() {
-    io::write_all(1, b"a guard was touched\n");
 }
