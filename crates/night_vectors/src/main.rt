@@ -8,7 +8,7 @@ use std::io;
 use streams::nights::{Job, Picture, Progress, Runs, next_choice};
 use streams::{answer_all, next_block, next_count, next_ticket};
 
-fn open_next(rt: &HostRuntime, plan: Plan, picture: &mut Picture<'_>) -> io::Result<()> {
+fn open_next(rt: &HostRuntime, plan: Plan, picture: &mut Picture) -> io::Result<()> {
     let ticket = next_ticket(rt)?;
     let plan = next_choice(rt, plan)?;
     let (_, marks) = picture.lend();
@@ -18,12 +18,7 @@ fn open_next(rt: &HostRuntime, plan: Plan, picture: &mut Picture<'_>) -> io::Res
     }
 }
 
-fn send_next(
-    rt: &HostRuntime,
-    plan: Plan,
-    runs: &Runs,
-    picture: &mut Picture<'_>,
-) -> io::Result<()> {
+fn send_next(rt: &HostRuntime, plan: Plan, runs: &Runs, picture: &mut Picture) -> io::Result<()> {
     let job = Job::next(rt, plan, runs)?;
     let (output, marks) = picture.lend();
     let answer = compose_job(
@@ -47,9 +42,7 @@ fn send_next(
 fn answer_night(rt: &HostRuntime) -> io::Result<()> {
     let plan = next_block(rt)?.plan;
     let runs = Runs::next(rt)?;
-    let mut samples = [0; 128];
-    let mut marks = [0; 80];
-    let mut picture = Picture::next(rt, &mut samples, &mut marks)?;
+    let mut picture = Picture::next(rt)?;
     open_next(rt, plan, &mut picture)?;
     for _ in 0..next_count(rt)? {
         send_next(rt, plan, &runs, &mut picture)?;

@@ -1,48 +1,54 @@
 // What is lent lies between guards, which nobody may touch: 16 places on each side, and whatever lies behind.
 const SIDE: usize = 16;
 
-// A room of which a part is lent.
-#[derive(Drop)]
-pub struct Guarded<'a, T> {
+// How many places of a room are not lent at least.
+pub const GUARDS: usize = 2 * SIDE;
+
+// The guards of a room of samples.
+pub const SAMPLE: u16 = 55555;
+
+// The guards of a room of marks.
+pub const MARK: u8 = 170;
+
+// A room of which the places from SIDE up to `end` are lent.
+#[derive(Clone, Copy)]
+pub struct Guarded<T, const ROOM: usize> {
     guard: T,
-    before: &'a mut [T],
-    lent: &'a mut [T],
-    behind: &'a mut [T],
+    room: [T; ROOM],
+    end: usize,
 }
 
-impl<'a, T: Copy + PartialEq> Guarded<'a, T> {
-    // Fills the room with guards; none where it has no place for so many values and the guards.
-    pub fn new(room: &'a mut [T], guard: T, count: usize) -> Option<Guarded<'a, T>> {
-        // `fill` would ask of T that its clone cannot fail, which a bound does not say
-        for place in room.iter_mut() {
-            *place = guard;
-        }
-        let (before, rest) = room.split_at_mut_checked(SIDE)?;
-        let (lent, behind) = rest.split_at_mut_checked(count)?;
-        if behind.len() < SIDE {
+impl<T: Copy + PartialEq, const ROOM: usize> Guarded<T, ROOM> {
+    // Lends so many places; none where the room has not so many between the guards.
+    pub fn new(guard: T, count: usize) -> Option<Guarded<T, ROOM>> {
+        let end = count.checked_add(SIDE)?;
+        if ROOM.checked_sub(end)? < SIDE {
             return None;
         }
         Some(Guarded {
             guard,
-            before,
-            lent,
-            behind,
+            room: [guard; ROOM],
+            end,
         })
     }
 
     pub fn lent(&self) -> &[T] {
-        &*self.lent
+        self.room.get(SIDE..self.end).unwrap_or_default()
     }
 
     pub fn lend(&mut self) -> &mut [T] {
-        &mut *self.lent
+        let end = self.end;
+        let room = &mut self.room;
+        room[..].get_mut(SIDE..end).unwrap_or_default()
     }
 
     // Whether all guards are as they were.
     pub fn is_kept(&self) -> bool {
-        let guard = self.guard;
-        let before = &*self.before;
-        let behind = &*self.behind;
-        before.iter().chain(behind).all(|place| *place == guard)
+        let before = self.room.get(..SIDE).unwrap_or_default();
+        let behind = self.room.get(self.end..).unwrap_or_default();
+        before
+            .iter()
+            .chain(behind)
+            .all(|place| *place == self.guard)
     }
 }

@@ -1,5 +1,5 @@
 // Pictures that are composed by jobs: the runs and the plan that a job refers to, what it is lent, and what is said of it.
-use crate::guards::Guarded;
+use crate::guards::{GUARDS, Guarded, MARK, SAMPLE};
 use crate::{Run, Spaced, malformed, next_byte, next_count, next_ticket, untouch};
 use plan::Plan;
 use std::io::Read;
@@ -66,25 +66,24 @@ impl<'a> Job<'a> {
     }
 }
 
+// Pictures have at most 96 samples and 48 marks.
+const SAMPLE_ROOM: usize = 96 + GUARDS;
+
+const MARK_ROOM: usize = 48 + GUARDS;
+
 // What the jobs of a picture are lent: its output run and its marks.
-#[derive(Drop)]
-pub struct Picture<'a> {
-    output: Guarded<'a, u16>,
-    marks: Guarded<'a, u8>,
+#[derive(Clone, Copy)]
+pub struct Picture {
+    output: Guarded<u16, SAMPLE_ROOM>,
+    marks: Guarded<u8, MARK_ROOM>,
 }
 
-impl<'a> Picture<'a> {
+impl Picture {
     // The marks as the stream has them, and an output run that nobody wrote.
-    pub fn next(
-        rt: &HostRuntime,
-        samples: &'a mut [u16; 128],
-        marks: &'a mut [u8; 80],
-    ) -> io::Result<Picture<'a>> {
-        let count = next_count(rt)?;
-        let mut marks = Guarded::new(marks, 170, count).ok_or_else(malformed)?;
+    pub fn next(rt: &HostRuntime) -> io::Result<Picture> {
+        let mut marks = Guarded::new(MARK, next_count(rt)?).ok_or_else(malformed)?;
         rt.stdin().read_exact(marks.lend())?;
-        let count = next_count(rt)?;
-        let mut output = Guarded::new(samples, 55555, count).ok_or_else(malformed)?;
+        let mut output = Guarded::new(SAMPLE, next_count(rt)?).ok_or_else(malformed)?;
         untouch(output.lend(), 60000);
         Ok(Picture { output, marks })
     }
@@ -100,7 +99,7 @@ impl<'a> Picture<'a> {
     }
 }
 
-impl fmt::Display for Picture<'_> {
+impl fmt::Display for Picture {
     fn fmt<W: fmt::Write>(&self, f: &mut fmt::Formatter<W>) -> fmt::Result {
         writeln!(f, "{}", Spaced(self.output.lent()))?;
         write!(f, "{}", Spaced(self.marks.lent()))
