@@ -67,34 +67,33 @@ fn edited(base: &[u8], edits: &[u8]) -> Option<[u8; BLOCK_ROOM]> {
     Some(block)
 }
 
-// Answers the first of the cases, and gives what follows it.
-fn answer_next<'a>(rt: &HostRuntime, blocks: &[u8], cases: &'a [u8]) -> io::Result<&'a [u8]> {
-    let (head, rest) = cases.split_first_chunk::<6>().ok_or_else(malformed)?;
+// Reads the block of the first of the cases, and gives what follows it.
+fn read_next<'a>(blocks: &[u8], cases: &'a [u8]) -> Option<(Reading, &'a [u8])> {
+    let (head, rest) = cases.split_first_chunk::<6>()?;
     let [base, from_high, from_low, to_high, to_low, count] = *head;
-    let length = 3 * usize::from(count);
-    let (edits, rest) = rest.split_at_checked(length).ok_or_else(malformed)?;
-    let base = skip_blocks(blocks, base)
-        .and_then(split_block)
-        .ok_or_else(malformed)?
-        .0;
-    let block = edited(base, edits).ok_or_else(malformed)?;
-    let part = block.get(pair(from_high, from_low)..pair(to_high, to_low));
-    let reading = block::read(part.ok_or_else(malformed)?);
-    println!(rt; "{}", Said(&reading))?;
-    Ok(rest)
+    let (edits, rest) = rest.split_at_checked(3 * usize::from(count))?;
+    let (base, _) = split_block(skip_blocks(blocks, base)?)?;
+    let block = edited(base, edits)?;
+    let part = block.get(pair(from_high, from_low)..pair(to_high, to_low))?;
+    Some((block::read(part), rest))
+}
+
+// The base blocks of a stream, and its cases.
+fn split_stream(stream: &[u8]) -> Option<(&[u8], &[u8])> {
+    let (count, blocks) = stream.split_first()?;
+    Some((blocks, skip_blocks(blocks, *count)?))
 }
 
 fn main(rt: HostRuntime) -> io::Result<()> {
     let mut room = [0; 262144];
     let length = io::copy(&mut rt.stdin(), &mut room.as_mut_slice())?;
-    let input = room.get(..length as usize).unwrap_or_default();
-    if let Some((count, blocks)) = input.split_first() {
-        if let Some(mut cases) = skip_blocks(blocks, *count) {
-            return answer_all(&rt, |rt| {
-                cases = answer_next(rt, blocks, cases)?;
-                Ok(())
-            });
-        }
-    }
-    Ok(())
+    let stream = room.get(..length as usize).unwrap_or_default();
+    let Some((blocks, mut cases)) = split_stream(stream) else {
+        return Ok(());
+    };
+    answer_all(&rt, |rt| {
+        let (reading, rest) = read_next(blocks, cases).ok_or_else(malformed)?;
+        cases = rest;
+        println!(rt; "{}", Said(&reading))
+    })
 }

@@ -1,4 +1,6 @@
 // What is lent lies between guards, which nobody may touch: 16 places on each side, and whatever lies behind.
+ghost use Rattle.std.specs.Prelude.{◌+◌, ◌<◌, ◌↔◌, IsNone};
+
 const SIDE: usize = 16;
 
 // How many places of a room are not lent at least.
@@ -20,7 +22,9 @@ pub struct Guarded<T, const ROOM: usize> {
 
 impl<T: Copy + PartialEq, const ROOM: usize> Guarded<T, ROOM> {
     // Lends so many places; none where the room has not so many between the guards.
-    pub fn new(guard: T, count: usize) -> Option<Guarded<T, ROOM>> {
+    pub fn new(guard: T, count: usize) -> Option<Guarded<T, ROOM>>
+        ensures { IsNone result ↔ (ROOM < count + GUARDS) }
+    {
         let end = count.checked_add(SIDE)?;
         if ROOM.checked_sub(end)? < SIDE {
             return None;

@@ -5,7 +5,8 @@ pub mod guards; // what is lent, between guards that nobody may touch
 pub mod nights; // pictures that are composed by jobs
 pub mod places; // a plan's places by their numbers
 
-ghost use Rattle.std.specs.Prelude.{◌≡◌, ◌≤◌, IfOk};
+ghost use Rattle.std.specs.Prelude.{◌≡◌, ◌≢◌, ◌≤◌, IfOk, IfErr};
+ghost use Rattle.std.specs.IoError.{error_kind};
 ghost use Rattle.runs.specs.Runs.{painted};
 ghost use Rattle.block.specs.Facts.{Sound};
 ghost use Rattle.streams.specs.inner.Untouched.{everywhere, untouched};
@@ -20,7 +21,9 @@ use std::{fmt, io};
 pub const BLOCK_ROOM: usize = 8192;
 
 // The error of a stream that is not in its format.
-pub fn malformed() -> Error {
+pub fn malformed() -> Error
+    ensures { error_kind result ≡ ErrorKind.InvalidData }
+{
     Error::from(ErrorKind::InvalidData)
 }
 
@@ -30,6 +33,7 @@ pub fn answer_all<F: FnMut(&HostRuntime) -> io::Result<()>>(
     mut answer_next: F,
 ) -> io::Result<()>
     requires { F.IsAlwaysCallable answer_next }
+    ensures { IfErr result (λ e. (error_kind e ≢ ErrorKind.UnexpectedEof) × (error_kind e ≢ ErrorKind.InvalidData)) }
 {
     for _ in 0..u64::MAX {
         if let Err(error) = answer_next(rt) {

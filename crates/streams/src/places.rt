@@ -1,5 +1,8 @@
 // The places of a plan by their numbers (second/README.md has them as a table): first those of the header, then those of each
 // component.
+ghost use Rattle.std.specs.Prelude.{◌≡◌, ◌≤◌, ◌↔◌, IsNone};
+ghost use Rattle.streams.specs.inner.Places.{held};
+
 use plan::limits::{PIECES, PIVOTS, ROW};
 use plan::{Component, Header, Nlq, Piece, Plan};
 
@@ -34,7 +37,9 @@ pub enum Place<'a> {
 
 impl<'a> Place<'a> {
     // Place `number` of a plan, where there is one.
-    pub fn of(plan: &'a mut Plan, number: usize) -> Option<Place<'a>> {
+    pub fn of(plan: &'a mut Plan, number: usize) -> Option<Place<'a>>
+        ensures { IsNone result ↔ (PLACES ≤ number) }
+    {
         let Some(rest) = number.checked_sub(HEADER) else {
             return Place::of_header(&mut plan.header, number);
         };
@@ -47,7 +52,9 @@ impl<'a> Place<'a> {
         Place::of_component(component, rest % COMPONENT)
     }
 
-    fn of_header(h: &'a mut Header, number: usize) -> Option<Place<'a>> {
+    fn of_header(h: &'a mut Header, number: usize) -> Option<Place<'a>>
+        ensures { IsNone result ↔ (HEADER ≤ number) }
+    {
         Some(match number {
             0 => Place::Byte(&mut h.profile),
             1 => Place::Byte(&mut h.level),
@@ -64,7 +71,9 @@ impl<'a> Place<'a> {
         })
     }
 
-    fn of_component(c: &'a mut Component, number: usize) -> Option<Place<'a>> {
+    fn of_component(c: &'a mut Component, number: usize) -> Option<Place<'a>>
+        ensures { IsNone result ↔ (COMPONENT ≤ number) }
+    {
         if number < FIRST_PIVOT {
             Some(Place::Byte(&mut c.n))
         } else if number < FIRST_PIECE {
@@ -77,7 +86,9 @@ impl<'a> Place<'a> {
         }
     }
 
-    fn of_piece(q: &'a mut Piece, number: usize) -> Option<Place<'a>> {
+    fn of_piece(q: &'a mut Piece, number: usize) -> Option<Place<'a>>
+        ensures { IsNone result ↔ (PIECE ≤ number) }
+    {
         match number {
             0 => Some(Place::Byte(&mut q.idc)),
             1 => Some(Place::Byte(&mut q.order)),
@@ -85,7 +96,9 @@ impl<'a> Place<'a> {
         }
     }
 
-    fn of_nlq(q: &'a mut Nlq, number: usize) -> Option<Place<'a>> {
+    fn of_nlq(q: &'a mut Nlq, number: usize) -> Option<Place<'a>>
+        ensures { IsNone result ↔ (4 ≤ number) }
+    {
         Some(match number {
             0 => Place::Short(&mut q.offset),
             1 => Place::Long(&mut q.maximum),
@@ -106,7 +119,9 @@ impl<'a> Place<'a> {
         }
     }
 
-    pub fn value(&self) -> i128 {
+    pub fn value(&self) -> i128
+        ensures { result ≡ held self.now }
+    {
         match self {
             Place::Byte(place) => i128::from(**place),
             Place::Short(place) => i128::from(**place),
