@@ -10,7 +10,8 @@ use lib.Dec.{leb, eqb}
 use lib.ListN.{length}
 use borrow.Author.Tests.{le-leb, lt-leb, leb-true, eq-eqb, eqb-true}
 use Rattle.runs.specs.Runs.{painted, between}
-use Rattle.runs.proofs.Between.{lt_or_ge, between_empty, between_join}
+use Rattle.std.proofs.lemmas.Bool.{cases_lt}
+use Rattle.runs.proofs.Between.{between_empty, between_join}
 use Rattle.runs.proofs.Painting.{length-painted, painted_none, painted_cong, painted-over, painted_on}
 use Rattle.spans.specs.inner.Spans.{looked_up, FourWithin, four_lie, in_four, in_step}
 
@@ -23,7 +24,7 @@ module _ (start n places : ℕ) where
   by_difference h = ⊎_elim
       (λ u. lt-leb start (places - n) u ∙ sym (lt-leb (start + n) places (omega arith)))
       (λ u. le-leb start (places - n) u ∙ sym (le-leb (start + n) places (omega arith)))
-      (lt_or_ge (places - n) start)
+      (cases_lt (places - n) start)
 
 both : (a b : Bool) → (a && b) ≡ true → (a ≡ true) × (b ≡ true)
 both true b h = (refl, h)
