@@ -6,141 +6,94 @@
 // (1 byte), each an offset (2 bytes) and the new byte.
 #![tactic(auto)]
 
-mod text; // numbers as text, in a line
-mod places; // a plan's places, in a line
-
-ghost use Rattle.std.specs.Prelude.{◌≡◌, ◌<◌, ◌≤◌, length};
-
 use block::Reading;
-use places::put_plan;
-use streams::BLOCK_ROOM;
-use text::{LINE, put, put_number, put_text, write};
+use std::{fmt, io};
+use streams::places::{PLACES, Place};
+use streams::{BLOCK_ROOM, answer_all, malformed};
 
-fn wide(b: u8) -> usize
-    ensures { result ≤ 255 }
-{
-    b as usize
-}
+// What is said of a reading.
+#[derive(Clone, Copy)]
+struct Said<'a>(&'a Reading);
 
-// The byte at a place of the input: 0 past its end.
-fn byte(s: &[u8], at: usize) -> usize
-    ensures { result ≤ 255 }
-{
-    if at < s.len() { wide(s[at]) } else { 0 }
-}
-
-fn pair(s: &[u8], at: usize) -> usize
-    ensures { result ≤ 65535 }
-{
-    if at < s.len() {
-        byte(s, at) * 256 + byte(s, at + 1)
-    } else {
-        0
-    }
-}
-
-// Where base block `index` begins, with its length; for the number of blocks, where the cases begin.
-fn base(s: &[u8], index: usize) -> usize {
-    let mut at: usize = 1;
-    let mut i: usize = 0;
-    while i < index {
-        if s.len() <= at {
-            return at;
+impl fmt::Display for Said<'_> {
+    fn fmt<W: fmt::Write>(&self, f: &mut fmt::Formatter<W>) -> fmt::Result {
+        let refusal = self.0.number;
+        if refusal != 0 {
+            return write!(f, "refused {refusal}");
         }
-        at = at + 2 + pair(s, at);
-        i += 1;
-    }
-    at
-}
-
-// The base block at a place of the input.
-fn copied(s: &[u8], at: usize) -> [u8; BLOCK_ROOM] {
-    let mut block = [0u8; BLOCK_ROOM];
-    if at < s.len() {
-        let count = pair(s, at);
-        let mut i: usize = 0;
-        while i < count {
-            if i < BLOCK_ROOM {
-                block[i] = byte(s, at + 2 + i) as u8;
+        write!(f, "plan")?;
+        let mut plan = self.0.plan;
+        for index in 0..PLACES {
+            if let Some(place) = Place::of(&mut plan, index) {
+                let value = place.value();
+                if value != 0 {
+                    write!(f, " {index}:{value}")?;
+                }
             }
-            i += 1;
         }
-    }
-    block
-}
-
-// The block after `count` edits, which stand at a place of the input.
-fn edited(s: &[u8], given: [u8; BLOCK_ROOM], at: usize, count: usize) -> [u8; BLOCK_ROOM]
-    requires { (at ≤ length s.now) × (count ≤ 255) }
-{
-    let mut block = given;
-    let mut i: usize = 0;
-    while i < count {
-        let offset = pair(s, at + 3 * i);
-        if offset < BLOCK_ROOM {
-            block[offset] = byte(s, at + 3 * i + 2) as u8;
-        }
-        i += 1;
-    }
-    block
-}
-
-fn put_reading(line: &mut [u8; LINE], r: Reading) -> usize {
-    if r.number == 0 {
-        let plan = r.plan;
-        return put_plan(line, plan);
-    }
-    let at = put_text(line, 0, b"refused ");
-    put_number(line, at, r.number as u64)
-}
-
-fn answer(block: [u8; BLOCK_ROOM], from: usize, to: usize) {
-    if to < from {
-        return;
-    }
-    if BLOCK_ROOM < to {
-        return;
-    }
-    let r = block::read(&block[from..to]);
-    let mut line = [0u8; LINE];
-    let at = put_reading(&mut line, r);
-    let end = put(&mut line, at, b'\n');
-    write(line, end);
-}
-
-// The case at a place of the input; answers where the next one begins.
-fn case(s: &[u8], at: usize) -> usize
-    requires { at < length s.now }
-    ensures { at < result }
-{
-    let count = byte(s, at + 5);
-    let end = at + 6 + 3 * count;
-    if s.len() < end {
-        return s.len();
-    }
-    let start = base(s, byte(s, at));
-    let block = copied(s, start);
-    let changed = edited(s, block, at + 6, count);
-    answer(changed, pair(s, at + 1), pair(s, at + 3));
-    end
-}
-
-fn cases(s: &[u8]) {
-    let mut at = base(s, byte(s, 0));
-    while at < s.len() {
-        at = case(s, at);
+        Ok(())
     }
 }
 
-// The input's bytes; the contract gives the length, which lending them as a slice needs.
-fn room() -> [u8; 262144]
-    ensures { 262144 ≡ length result }
-{
-    [0; 262144]
+fn pair(high: u8, low: u8) -> usize {
+    usize::from(u16::from_be_bytes([high, low]))
 }
 
-fn main() {
-    let mut input = room();
-    let n = io::read_full(0, &mut input);
-    cases(&input[..n]);
+// A block with its length before it, and what follows it.
+fn split_block(stream: &[u8]) -> Option<(&[u8], &[u8])> {
+    let (length, rest) = stream.split_first_chunk::<2>()?;
+    let [high, low] = *length;
+    rest.split_at_checked(pair(high, low))
+}
+
+// What follows so many blocks.
+fn skip_blocks(stream: &[u8], count: u8) -> Option<&[u8]> {
+    let mut rest = stream;
+    for _ in 0..count {
+        (_, rest) = split_block(rest)?;
+    }
+    Some(rest)
+}
+
+// The base block after the edits.
+fn edited(base: &[u8], edits: &[u8]) -> Option<[u8; BLOCK_ROOM]> {
+    let mut block = [0; BLOCK_ROOM];
+    block.get_mut(..base.len())?.copy_from_slice(base);
+    let (edits, _) = edits.as_chunks::<3>();
+    for edit in edits {
+        let [high, low, byte] = *edit;
+        *block.get_mut(pair(high, low))? = byte;
+    }
+    Some(block)
+}
+
+// Reads the block of the first of the cases, and gives what follows it.
+fn read_next<'a>(blocks: &[u8], cases: &'a [u8]) -> Option<(Reading, &'a [u8])> {
+    let (head, rest) = cases.split_first_chunk::<6>()?;
+    let [base, from_high, from_low, to_high, to_low, count] = *head;
+    let (edits, rest) = rest.split_at_checked(3 * usize::from(count))?;
+    let (base, _) = split_block(skip_blocks(blocks, base)?)?;
+    let block = edited(base, edits)?;
+    let part = block.get(pair(from_high, from_low)..pair(to_high, to_low))?;
+    Some((block::read(part), rest))
+}
+
+// The base blocks of a stream, and its cases.
+fn split_stream(stream: &[u8]) -> Option<(&[u8], &[u8])> {
+    let (count, blocks) = stream.split_first()?;
+    Some((blocks, skip_blocks(blocks, *count)?))
+}
+
+fn main(rt: HostRuntime) -> io::Result<()> {
+    let mut room = [0; 262144];
+    let length = io::copy(&mut rt.stdin(), &mut room.as_mut_slice())?;
+    let stream = room.get(..length as usize).unwrap_or_default();
+    let Some((blocks, mut cases)) = split_stream(stream) else {
+        return Ok(());
+    };
+    answer_all(&rt, |rt| {
+        let (reading, rest) = read_next(blocks, cases).ok_or_else(malformed)?;
+        cases = rest;
+        println!(rt; "{}", Said(&reading))
+    })
 }

@@ -10,7 +10,7 @@ use lib.ListN.{length, get_or, get_or-eq_default}
 use lib.Seq.{ext_get_or}
 use borrow.Author.Tests.{eqb-true}
 use Rattle.runs.specs.Runs.{painted, tally}
-use Rattle.runs.proofs.Between.{lt_or_ge}
+use Rattle.std.proofs.lemmas.Bool.{cases_lt}
 use Rattle.runs.proofs.Painting.{length-painted, at-painted}
 use Rattle.refusals.specs.Refusals.{rule, Outcome, granted}
 use Rattle.refusals.proofs.Laws.{none_met, not_off, outcome-granted}
@@ -77,7 +77,7 @@ module _ (p : Plan) (base enhancement output marks : List ℕ) (fits : opening_a
 
   begin_open : (k : ℕ) → full_at begin.marks k ≡ false
   unfolding full_at full
-  begin_open k = ⊎_elim (λ l. ap full (begin_waits k l)) (λ l. ap full (get_or-eq_default begin.marks 0 (omega (arith, begin_long)))) (lt_or_ge k b)
+  begin_open k = ⊎_elim (λ l. ap full (begin_waits k l)) (λ l. ap full (get_or-eq_default begin.marks 0 (omega (arith, begin_long)))) (cases_lt k b)
 
   module _ (js : List Job) (asked : All (Asked p base enhancement a b) js) where
     abbrev end : Memory

@@ -9,7 +9,7 @@ use lib.Dec.{eqb}
 use lib.ListN.{length, get_or, get_or-eq_default}
 use borrow.Author.Tests.{eqb-true}
 use Rattle.runs.specs.Runs.{painted}
-use Rattle.runs.proofs.Between.{lt_or_ge}
+use Rattle.std.proofs.lemmas.Bool.{cases_lt}
 use Rattle.runs.proofs.Painting.{length-painted}
 use Rattle.refusals.proofs.Laws.{neither}
 use Rattle.picture.specs.Picture.{pair_at}
@@ -62,7 +62,7 @@ module _ (j : Job) (m : Memory) where
     full-step k = ⊎_elim
         (λ l. ap full (mark_step k l) ∙ mark_then (fills_it k) (names_it k) (get_or m.marks k 0))
         (λ l. past k l (names_it k) refl)
-        (lt_or_ge k b)
+        (cases_lt k b)
       where
         past : (k : ℕ) → b ≤ k → (u : Bool) → names_it k ≡ u → full (get_or (step j m).marks k 0) ≡ full_then (u && is_full j) u (full (get_or m.marks k 0))
         past k l true h = absurd (omega (arith, named-marked j a b k (both (accepted j a b) _ h).0 (both (accepted j a b) _ h).1))

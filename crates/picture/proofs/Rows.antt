@@ -9,7 +9,8 @@ use native.Mathlib.Omega.{arith}
 use lib.Dec.{leb, eqb}
 use borrow.Author.Tests.{le-leb, lt-leb}
 use Rattle.runs.specs.Runs.{painted, between}
-use Rattle.runs.proofs.Between.{lt_or_ge, in_between, under-between, between_true, between_one}
+use Rattle.std.proofs.lemmas.Bool.{cases_lt}
+use Rattle.runs.proofs.Between.{in_between, under-between, between_true, between_one}
 use Rattle.runs.proofs.Painting.{painted_cong, painted-over}
 use Rattle.picture.specs.declared.Plane.{Plane}
 use Rattle.picture.specs.inner.Planes.{row_start, in_rows, InPlane}
@@ -39,7 +40,7 @@ unfolding in_rows
 rows_between p a b i some = ⊎_elim
     (λ u. ap (λ (x : Bool). x && between a b ((i - p.start) / p.row)) (lt-leb p.start i u) ∙ sym (under-between _ _ i (omega arith)))
     (λ u. ap (λ (x : Bool). x && between a b ((i - p.start) / p.row)) (le-leb p.start i u) ∙ between-div p.row a b (i - p.start) some ∙ between_sub p.start _ _ i u)
-    (lt_or_ge i p.start)
+    (cases_lt i p.start)
 
 -- a sample of row pairs that lie in a run is one of the run
 pub rows_inside : (p : Plane) (first last n i : ℕ) → InPlane p first last n → in_rows p (between first last) i ≡ true → i < n

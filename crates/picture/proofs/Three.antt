@@ -9,7 +9,7 @@ use native.Mathlib.Omega.{arith}
 use lib.Dec.{leb, ltb}
 use borrow.Author.Tests.{lt-ltb, le-ltb, le-leb, lt-leb, leb-true}
 use Rattle.runs.specs.Runs.{painted, some}
-use Rattle.runs.proofs.Between.{lt_or_ge}
+use Rattle.std.proofs.lemmas.Bool.{cases_lt}
 use Rattle.runs.proofs.Painting.{painted_cong, painted-over}
 use Rattle.runs.proofs.Testing.{some_cong, some_or}
 use Rattle.picture.specs.declared.Extent.{Extent}
@@ -136,8 +136,8 @@ module _ (e : Extent) (some_columns : 1 ≤ e.columns) (selected : ℕ → Bool)
       rw (le-ltb i (luma_size e) u, le-ltb i (luma_size e + chroma_size e) v)
       (only_3 y cb cr (off _ (λ h. omega (arith, in_luma i h))) (off _ (λ h. omega (arith, in_cb i h)))
       ∙ on (cr_plane e) i _ (omega arith) (ap (λ (n : ℕ). (i - n) / e.columns) (omega arith))))
-      (lt_or_ge i (luma_size e + chroma_size e)))
-      (lt_or_ge i (luma_size e))
+      (cases_lt i (luma_size e + chroma_size e)))
+      (cases_lt i (luma_size e))
 
   -- a selected sample of a plane lies in a selected row pair of the picture
   pub luma_selected : (i : ℕ) → in_rows (luma_plane e) selected i ≡ true → selected (pair_at e i) ≡ true
@@ -207,4 +207,4 @@ module _ (p : Plane) (first last n : ℕ) where
       (le_or_gt (row_start p last) n))
     where
       le_or_gt : (a b : ℕ) → (a ≤ b) ⊎ (b < a)
-      le_or_gt a b = ⊎_elim (λ h. inr h) (λ h. inl h) (lt_or_ge b a)
+      le_or_gt a b = ⊎_elim (λ h. inr h) (λ h. inl h) (cases_lt b a)

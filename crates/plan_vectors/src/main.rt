@@ -2,46 +2,20 @@
 // places changed, and one line of answer for each, 0 or 7. A stream that is malformed ends there.
 #![tactic(auto)]
 
-use plan::Plan;
 use rule_seven::passes;
-use streams::{BLOCK_ROOM, next_block, next_number, next_plan};
+use std::io;
+use streams::{answer_all, next_block, next_count, next_plan};
 
-fn say(fits: bool) {
-    if fits {
-        io::write_all(1, b"0\n");
-    } else {
-        io::write_all(1, b"7\n");
+// A block and its cases.
+fn answer_group(rt: &HostRuntime) -> io::Result<()> {
+    let plan = next_block(rt)?.plan;
+    for _ in 0..next_count(rt)? {
+        let number = if passes(next_plan(rt, plan)?) { 0 } else { 7 };
+        println!(rt; "{number}")?;
     }
+    Ok(())
 }
 
-// The cases of one block.
-fn run_cases(plan: Plan) {
-    let mut left = next_number().value;
-    while 0 < left {
-        say(passes(next_plan(plan)));
-        left -= 1;
-    }
-}
-
-// A block and its cases; false where the input has ended.
-fn next_group() -> bool {
-    let len = next_number();
-    if !len.there {
-        return false;
-    }
-    let mut bytes = [0u8; BLOCK_ROOM];
-    let reading = next_block(&mut bytes, len.value);
-    let plan = reading.plan;
-    run_cases(plan);
-    true
-}
-
-fn main() {
-    let mut left: usize = 100000;
-    while 0 < left {
-        if !next_group() {
-            return;
-        }
-        left -= 1;
-    }
+fn main(rt: HostRuntime) -> io::Result<()> {
+    answer_all(&rt, answer_group)
 }

@@ -11,7 +11,7 @@ use lib.IntN.{ℤ, pos, negsuc, neg_ℤ, sub_ℕ, ◌+ℤ◌}
 use lib.Pow.{pow_pos, pow_mono, shr_mono}
 use lib.Signed.{lt_z, shr_z}
 use borrow.Author.Tests.{ltb-true, ltb-false}
-use Rattle.runs.proofs.Between.{lt_or_ge}
+use Rattle.std.proofs.lemmas.Bool.{cases_lt}
 use Rattle.standard.specs.Mapping.{from_zero}
 use Rattle.standard.specs.Residual.{limited}
 use Rattle.residual.specs.inner.Raising.{raised}
@@ -53,14 +53,14 @@ raised_first far (suc m) (negsuc a) false true s e h = omega (arith, difference 
 
 -- a division keeps the order
 div-min : (k a b : ℕ) → min a b / 2 ^ k ≡ min (a / 2 ^ k) (b / 2 ^ k)
-div-min k a b = go (lt_or_ge a b)
+div-min k a b = go (cases_lt a b)
   where
     go : (a < b) ⊎ (b ≤ a) → min a b / 2 ^ k ≡ min (a / 2 ^ k) (b / 2 ^ k)
     go (inl p) = let e : min a b ≡ a = omega arith in rw e (omega (arith, shr_mono {a = a} {b = b} k (omega arith)))
     go (inr p) = let e : min a b ≡ b = omega arith in rw e (omega (arith, shr_mono {a = b} {b = a} k p))
 
 div-max : (k a b : ℕ) → max a b / 2 ^ k ≡ max (a / 2 ^ k) (b / 2 ^ k)
-div-max k a b = go (lt_or_ge a b)
+div-max k a b = go (cases_lt a b)
   where
     go : (a < b) ⊎ (b ≤ a) → max a b / 2 ^ k ≡ max (a / 2 ^ k) (b / 2 ^ k)
     go (inl p) = let e : max a b ≡ b = omega arith in rw e (omega (arith, shr_mono {a = a} {b = b} k (omega arith)))

@@ -10,7 +10,7 @@ use lib.IntN.{ℤ, pos, negsuc, nat_abs, ◌+ℤ◌, +ℤ_assoc}
 use lib.Pow.{pow_pos, pow-add, pow_mono}
 use lib.Signed.{shr_z, non_neg}
 use borrow.Author.Tests.{ltb-true, ltb-false}
-use Rattle.runs.proofs.Between.{lt_or_ge}
+use Rattle.std.proofs.lemmas.Bool.{cases_lt}
 use Rattle.words.proofs.Bounds.{add_in}
 use Rattle.standard.specs.Mapping.{from_zero}
 use Rattle.standard.specs.Residual.{reconstructed}
@@ -106,7 +106,7 @@ module _ (out : ℕ) (h : out ≤ 12) where
 
   pub plain : (v : ℕ) → min (v + 2 ^ (15 - out)) 65535 / 2 ^ (16 - out) ≡ reconstructed out v (pos 0)
   unfolding reconstructed
-  plain v = rw add-zero (go (pow_mono {i = 15 - out} {j = 15} (omega arith)) (lt_or_ge (65535 - 2 ^ (15 - out)) v))
+  plain v = rw add-zero (go (pow_mono {i = 15 - out} {j = 15} (omega arith)) (cases_lt (65535 - 2 ^ (15 - out)) v))
     where
       go : {half : ℕ} → half ≤ 2 ^ 15 → (65535 - half < v) ⊎ (v ≤ 65535 - half) → min (v + half) 65535 / 2 ^ (16 - out) ≡ min ((v + half) / 2 ^ (16 - out)) (2 ^ out - 1)
       go {half} s (inl p) =

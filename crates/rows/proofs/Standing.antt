@@ -7,7 +7,7 @@ use Prim.Native.Nat.{ℕ, ◌+◌, ◌<◌, ◌≤◌, min}
 use native.Mathlib.Nat.{le_refl}
 use native.Mathlib.Omega.{arith}
 use Rattle.runs.specs.Runs.{painted, between}
-use Rattle.runs.proofs.Between.{lt_or_ge}
+use Rattle.std.proofs.lemmas.Bool.{cases_lt}
 use Rattle.marks.specs.Marks.{full_at}
 use Rattle.marks.specs.inner.Marks.{not_full}
 use Rattle.marks.proofs.Keeping.{none_yet, one_more, one_kept, next_more}
@@ -31,7 +31,7 @@ module _ (marks : List ℕ) (k : ℕ) where
     full_on h i p q = ⊎_elim
         (λ (b : i < j + 1). full i p (omega arith))
         (λ (b : j + 1 ≤ i). let e : i ≡ j + 1 = omega arith in rw e h)
-        (lt_or_ge i (j + 1))
+        (cases_lt i (j + 1))
 
     pub found_next : (last : ℕ) → j < last → full_at marks (j + 1) ≡ false → Next marks k last (j + 1)
     found_next last b h = record { from = omega arith; ahead = λ a. omega arith; upto = omega arith; full_between = λ i p q. full i p (omega arith); kept_not = λ a. h }

@@ -5,14 +5,16 @@ use mathlib.Core.Logic.{◌⊎◌, inl, inr, ⊎_elim}
 use Prim.Native.Nat.{ℕ, zero, suc, ◌+◌, ◌-◌, ◌<◌, ◌≤◌, ◌^◌, zero-le, suc-le-suc}
 use native.Mathlib.Nat.{le_trans, le_refl, le_of_suc-le-suc, not-suc-le-zero}
 use native.Mathlib.Omega.{arith}
-use lib.Bits.{bit_or, or_lt, or_add_and, and_le_l, and_le_r}
+use lib.Bits.{bit_or, or_lt}
 use lib.Dec.{leb}
 use lib.ListN.{length, get_or, take}
 use lib.Pow.{pow_pos}
 use borrow.Author.Tests.{le-leb, lt-leb}
+use Rattle.std.proofs.lemmas.Bool.{cases_lt}
+use Rattle.std.proofs.lemmas.Nat.{le_or_l, le_or_r}
 use Rattle.runs.specs.Runs.{some, between, at_least}
 use Rattle.runs.specs.inner.Loops.{joined_after, joined}
-use Rattle.runs.proofs.Between.{lt_or_ge, in_between, between_true}
+use Rattle.runs.proofs.Between.{in_between, between_true}
 use Rattle.runs.proofs.Parts.{part, length_part, at_part}
 use Rattle.runs.proofs.Testing.{some_none, some-some}
 
@@ -24,12 +26,6 @@ joined_more v (x ∷ xs) zero b = refl
 joined_more v (x ∷ xs) (suc i) b = joined_more (bit_or v x) xs i (le_of_suc-le-suc b)
 
 -- no element is above them
-pub le_or_l : (a b : ℕ) → a ≤ bit_or a b
-le_or_l a b = omega (arith, or_add_and a b, and_le_r a b)
-
-pub le_or_r : (a b : ℕ) → b ≤ bit_or a b
-le_or_r a b = omega (arith, or_add_and a b, and_le_l a b)
-
 grown : (v : ℕ) (l : List ℕ) → v ≤ joined_after v l
 unfolding joined_after
 grown v [] = le_refl v
@@ -49,10 +45,7 @@ reach n v (x ∷ xs) h =
     ⊎_elim
     (λ u. ⊎_elim (λ p. inl p) (λ w. inr (suc w.0, suc-le-suc w.1, w.2)) (reach n (bit_or v x) xs (or_lt n v x h u)))
     (λ u. inr (0, suc-le-suc zero-le, u))
-    (lt_or_ge x (2 ^ n))
-
-pub all-below : (n : ℕ) (l : List ℕ) → joined l < 2 ^ n → (i : ℕ) → i < length l → get_or l i 0 < 2 ^ n
-all-below n l h i b = omega (arith, over 0 l i b)
+    (cases_lt x (2 ^ n))
 
 -- whether an element of a part reaches a power of two
 module _ (from to : ℕ) (l : List ℕ) (f : from ≤ to) (t : to ≤ length l) where
@@ -72,4 +65,4 @@ module _ (from to : ℕ) (l : List ℕ) (f : from ≤ to) (t : to ≤ length l) 
       let b : w.0 < to - from = omega (arith, w.1, length_part from to l t) in
       some-some (between from to) (at_least (2 ^ n)) l (from + w.0) (omega arith) (in_between from to (from + w.0) (omega arith) (omega arith)) (le-leb (2 ^ n) (get_or l (from + w.0) 0) (omega (arith, at_part from to l w.0 b, w.2))))
       (reach n 0 (part from to l) (pow_pos n))))
-      (lt_or_ge (joined (part from to l)) (2 ^ n))
+      (cases_lt (joined (part from to l)) (2 ^ n))

@@ -10,9 +10,10 @@ use native.Mathlib.Decide.{ℕ_discrete}
 use lib.ListN.{length, get_or, set, length-set}
 use lib.Seq.{ext_get_or, get_or-set_same, get_or-set_other}
 use borrow.Author.Tests.{ne_eqb}
+use Rattle.std.proofs.lemmas.Bool.{cases_lt}
 use Rattle.runs.specs.Runs.{map_from, painted, between}
 use Rattle.runs.specs.inner.Loops.{below}
-use Rattle.runs.proofs.Between.{lt_or_ge, in_between, over-between, between_empty, between_more, between_join}
+use Rattle.runs.proofs.Between.{in_between, over-between, between_empty, between_more, between_join}
 
 length-map_from : (f : ℕ → ℕ → ℕ) (k : ℕ) (l : List ℕ) → length (map_from f k l) ≡ length l
 unfolding map_from
@@ -67,16 +68,6 @@ pub painted_on : (a b c : ℕ) (f : ℕ → ℕ) (l : List ℕ) → a ≤ b → 
 painted_on a b c f l h k =
     painted-over (between a b) (between b c) f l
     ∙ painted_cong _ _ f f l (λ i m. between_join a b c i h k) (λ i m t. refl)
-
--- painting over a painting by a function of what stands there
-pub painted_again : (s : ℕ → Bool) (f g : ℕ → ℕ) (l : List ℕ) → painted s (λ i. g (get_or (painted s f l) i 0)) (painted s f l) ≡ painted s (λ i. g (f i)) l
-painted_again s f g l =
-    is_painted s (λ i. g (f i)) l (painted s (λ i. g (get_or (painted s f l) i 0)) (painted s f l)) (length-painted s _ (painted s f l) ∙ length-painted s f l)
-    (λ i b. at-painted s _ (painted s f l) i 0 (subst (λ (n : ℕ). i < n) (sym (length-painted s f l)) b) ∙ ap (λ (x : ℕ). cond (s i) (g x) x) (at-painted s f l i 0 b) ∙ go (s i) (f i) (get_or l i 0))
-  where
-    go : (u : Bool) (x y : ℕ) → cond u (g (cond u x y)) (cond u x y) ≡ cond u (g x) y
-    go true x y = refl
-    go false x y = refl
 
 -- where nothing is selected the list is as it was
 pub painted_none : (s : ℕ → Bool) (f : ℕ → ℕ) (l : List ℕ) → ((i : ℕ) → i < length l → s i ≡ false) → painted s f l ≡ l
@@ -142,5 +133,5 @@ paint_all {f} {l} {i} n h e =
     (λ k b. ⊎_elim
     (λ p. in_between 0 i k (omega arith) p ∙ sym (in_between 0 n k (omega arith) (omega arith)))
     (λ p. over-between 0 i k p ∙ sym (over-between 0 n k (omega arith)))
-    (lt_or_ge k i))
+    (cases_lt k i))
     (λ k b t. refl)

@@ -8,8 +8,9 @@ use native.Mathlib.Omega.{arith}
 use lib.ListN.{length, get_or, take, drop, length-take, length-drop, get_or-append}
 use lib.Seq.{get_or-take, get_or-drop, get_or-append-add, length-take-le}
 use borrow.Rule.Slice.PartMut.{put_mid, same_len_mid, mid_len, Post-is}
+use Rattle.std.proofs.lemmas.Bool.{cases_lt}
 use Rattle.runs.specs.Runs.{painted, between}
-use Rattle.runs.proofs.Between.{lt_or_ge, in_between, under-between, over-between}
+use Rattle.runs.proofs.Between.{in_between, under-between, over-between}
 use Rattle.runs.proofs.Painting.{length-painted, at-painted, is_painted}
 
 -- a part of a run, as a slice of it is lent
@@ -67,5 +68,5 @@ module _ (a b : ℕ) (l : List ℕ) (forward : a ≤ b) (inside : b ≤ length l
       ⊎_elim
       (λ v. let e : a + (i - a) ≡ i = omega arith in ap (λ (n : ℕ). get_or (put_mid a (b - a) l lent) n 0) (sym e) ∙ inner (i - a) (omega arith) ∙ ap f e ∙ sym (ap (λ (x : Bool). cond x (f i) (get_or l i 0)) (in_between a b i u v)))
       (λ v. let e : b + (i - b) ≡ i = omega arith in ap (λ (n : ℕ). get_or (put_mid a (b - a) l lent) n 0) (sym e) ∙ last (i - b) ∙ ap (λ (n : ℕ). get_or l n 0) e ∙ sym (ap (λ (x : Bool). cond x (f i) (get_or l i 0)) (over-between a b i v)))
-      (lt_or_ge i b))
-      (lt_or_ge i a))
+      (cases_lt i b))
+      (cases_lt i a))

@@ -9,9 +9,10 @@ use native.Mathlib.Omega.{arith}
 use borrow.Author.Tests.{lt-ltb, le-ltb}
 use lib.ListN.{length, get_or, set, replicate, length-set, length-replicate}
 use lib.Seq.{ext_get_or, get_or-set_other}
+use Rattle.std.proofs.lemmas.Bool.{cases_lt}
 use Rattle.runs.specs.Runs.{painted, between}
 use Rattle.runs.specs.inner.Tables.{table, coded}
-use Rattle.runs.proofs.Between.{lt_or_ge, in_between, under-between, over-between}
+use Rattle.runs.proofs.Between.{in_between, under-between, over-between}
 use Rattle.runs.proofs.Filling.{filled_more}
 use Rattle.runs.proofs.Painting.{length-painted, at-painted}
 
@@ -57,7 +58,7 @@ fill_painted {n} {a} {b} {f} {l} g h o few e same =
     rw e
     (record {
       long = length-painted (between a b) g l ∙ h.long;
-      done = λ j k. at j (omega arith) ∙ ⊎_elim (λ q. rw (under-between a b j q) (h.done j q)) (λ q. rw (in_between a b j q k) (same j q k)) (lt_or_ge j a);
+      done = λ j k. at j (omega arith) ∙ ⊎_elim (λ q. rw (under-between a b j q) (h.done j q)) (λ q. rw (in_between a b j q k) (same j q k)) (cases_lt j a);
       rest = λ j k q. at j q ∙ rw (over-between a b j k) (h.rest j (omega arith) q);
     })
 
@@ -67,7 +68,7 @@ fill_all {n} {i} {f} {l} g h below above =
     ext_get_or 0 l (table n g) (h.long ∙ sym (length-table n g))
     (λ j b.
     let k : j < n = subst (λ (m : ℕ). j < m) h.long b in
-    ⊎_elim (λ p. h.done j p ∙ below j p k) (λ p. h.rest j p k ∙ above j p k) (lt_or_ge j i) ∙ sym (at_table n g j k))
+    ⊎_elim (λ p. h.done j p ∙ below j p k) (λ p. h.rest j p k ∙ above j p k) (cases_lt j i) ∙ sym (at_table n g j k))
 
 pub zero_table : (n : ℕ) (g : ℕ → ℕ) → ((j : ℕ) → 0 ≡ g j) → replicate n 0 ≡ table n g
 zero_table n g z = fill_all g (fill_none n g 0 (λ j h. sym (z j))) (λ j h b. refl) (λ j h b. z j)

@@ -14,8 +14,9 @@ use lib.Seq.{take_all}
 use borrow.Author.Tests.{le-leb, lt-leb}
 use Rattle.runs.specs.Runs.{between, some, at_least}
 use Rattle.runs.specs.inner.Loops.{at, joined, joined_after}
-use Rattle.runs.proofs.Between.{lt_or_ge}
-use Rattle.runs.proofs.Joined.{le_or_l, le_or_r, joined_more, reached}
+use Rattle.std.proofs.lemmas.Bool.{cases_lt}
+use Rattle.std.proofs.lemmas.Nat.{le_or_l, le_or_r}
+use Rattle.runs.proofs.Joined.{joined_more, reached}
 use Rattle.runs.proofs.Parts.{part, length_part}
 use Rattle.spans.specs.inner.Spans.{bits_below, joined_six, six_at, places_of_six}
 
@@ -49,9 +50,9 @@ module _ (k : ℕ) where
       (λ u. ⊎_elim
       (λ v. lt-leb (2 ^ k) _ (or_lt k x y u v) ∙ sym (ap₂ ◌||◌ (lt-leb (2 ^ k) x u) (lt-leb (2 ^ k) y v)))
       (λ v. le-leb (2 ^ k) _ (le_trans v (le_or_r x y)) ∙ sym (ap (λ (b : Bool). reach x || b) (le-leb (2 ^ k) y v) ∙ or-true (reach x)))
-      (lt_or_ge y (2 ^ k)))
+      (cases_lt y (2 ^ k)))
       (λ u. le-leb (2 ^ k) _ (le_trans u (le_or_l x y)) ∙ sym (ap (λ (b : Bool). b || reach y) (le-leb (2 ^ k) x u)))
-      (lt_or_ge x (2 ^ k))
+      (cases_lt x (2 ^ k))
 
   -- two sequences in step
   reach_both : (f g : ℕ → ℕ) (n : ℕ) → reach (bits_below (λ i. bit_or (f i) (g i)) n) ≡ (reach (bits_below f n) || reach (bits_below g n))

@@ -1,59 +1,58 @@
 // What is lent lies between guards, which nobody may touch: 16 places on each side, and whatever lies behind.
-use crate::next_number;
+ghost use Rattle.std.specs.Prelude.{◌+◌, ◌<◌, ◌↔◌, IsNone};
 
-// What a room of samples has before a part of it is lent.
-pub const GUARD: u16 = 55555;
+const SIDE: usize = 16;
 
-fn guard_marks(room: &mut [u8]) {
-    let mut i: usize = 0;
-    while i < room.len() {
-        room[i] = 170;
-        i += 1;
-    }
+// How many places of a room are not lent at least.
+pub const GUARDS: usize = 2 * SIDE;
+
+// The guards of a room of samples.
+pub const SAMPLE: u16 = 55555;
+
+// The guards of a room of marks.
+pub const MARK: u8 = 170;
+
+// A room of which the places from SIDE up to `end` are lent.
+#[derive(Clone, Copy)]
+pub struct Guarded<T, const ROOM: usize> {
+    guard: T,
+    room: [T; ROOM],
+    end: usize,
 }
 
-// The marks before the first call, put between the guards; answers how many there are, at most 48.
-pub fn next_marks(room: &mut [u8]) -> usize {
-    guard_marks(room);
-    let m = next_number().value;
-    if 48 < m {
-        return 0;
+impl<T: Copy + PartialEq, const ROOM: usize> Guarded<T, ROOM> {
+    // Lends so many places; none where the room has not so many between the guards.
+    pub fn new(guard: T, count: usize) -> Option<Guarded<T, ROOM>>
+        ensures { IsNone result ↔ (ROOM < count + GUARDS) }
+    {
+        let end = count.checked_add(SIDE)?;
+        if ROOM.checked_sub(end)? < SIDE {
+            return None;
+        }
+        Some(Guarded {
+            guard,
+            room: [guard; ROOM],
+            end,
+        })
     }
-    if room.len() < 80 {
-        return 0;
-    }
-    io::read_full(0, &mut room[16..16 + m]);
-    m
-}
 
-// Whether place i is lent, where n places from 16 on are.
-fn is_lent(i: usize, n: usize) -> bool {
-    if i < 16 {
-        return false;
+    pub fn lent(&self) -> &[T] {
+        self.room.get(SIDE..self.end).unwrap_or_default()
     }
-    i - 16 < n
-}
 
-pub fn samples_kept(room: &[u16], n: usize) -> bool {
-    let mut kept = true;
-    let mut i: usize = 0;
-    while i < room.len() {
-        kept = kept & (is_lent(i, n) | (room[i] == GUARD));
-        i += 1;
+    pub fn lend(&mut self) -> &mut [T] {
+        let end = self.end;
+        let room = &mut self.room;
+        room[..].get_mut(SIDE..end).unwrap_or_default()
     }
-    kept
-}
 
-pub fn marks_kept(room: &[u8], n: usize) -> bool {
-    let mut kept = true;
-    let mut i: usize = 0;
-    while i < room.len() {
-        kept = kept & (is_lent(i, n) | (room[i] == 170));
-        i += 1;
+    // Whether all guards are as they were.
+    pub fn is_kept(&self) -> bool {
+        let before = self.room.get(..SIDE).unwrap_or_default();
+        let behind = self.room.get(self.end..).unwrap_or_default();
+        before
+            .iter()
+            .chain(behind)
+            .all(|place| *place == self.guard)
     }
-    kept
-}
-
-pub fn say_touched() {
-    io::write_all(1, b"a guard was touched\n");
 }

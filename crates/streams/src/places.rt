@@ -1,102 +1,133 @@
-// A plan with one place changed. A value has 64 bits, of which a narrower field takes the lowest.
-use crate::numbering::{
-    COMPONENT, FIRST_COEFFICIENT, FIRST_PIECE, FIRST_PIVOT, HEADER, NLQ, PIECE,
-};
+// The places of a plan by their numbers (second/README.md has them as a table): first those of the header, then those of each
+// component.
+ghost use Rattle.std.specs.Prelude.{◌≡◌, ◌≤◌, ◌↔◌, IsNone};
+ghost use Rattle.streams.specs.inner.Places.{held};
+
+use plan::limits::{PIECES, PIVOTS, ROW};
 use plan::{Component, Header, Nlq, Piece, Plan};
 
-fn byte(v: u64) -> u8 {
-    (v % 256) as u8
+// How many places the header has, and so where the first component begins.
+const HEADER: usize = 11;
+
+// A piece begins with mapping_idc and its order.
+const FIRST_COEFFICIENT: usize = 2;
+
+const PIECE: usize = FIRST_COEFFICIENT + ROW;
+
+// A component begins with num_pivots_minus2, and ends with four numbers of the residual.
+const FIRST_PIVOT: usize = 1;
+
+const FIRST_PIECE: usize = FIRST_PIVOT + PIVOTS;
+
+const NLQ: usize = FIRST_PIECE + PIECES * PIECE;
+
+const COMPONENT: usize = NLQ + 4;
+
+pub const PLACES: usize = HEADER + 3 * COMPONENT;
+
+// A place of a plan, lent.
+#[derive(Drop)]
+pub enum Place<'a> {
+    Byte(&'a mut u8),
+    Short(&'a mut u16),
+    Word(&'a mut u32),
+    Long(&'a mut u64),
+    Signed(&'a mut i64),
 }
 
-fn short(v: u64) -> u16 {
-    (v % 65536) as u16
-}
-
-fn word(v: u64) -> u32 {
-    (v % 4294967296) as u32
-}
-
-// Below zero where the highest bit is set.
-fn signed(v: u64) -> i64 {
-    if v < 9223372036854775808 {
-        v as i64
-    } else {
-        !((18446744073709551615 - v) as i64)
+impl<'a> Place<'a> {
+    // Place `number` of a plan, where there is one.
+    pub fn of(plan: &'a mut Plan, number: usize) -> Option<Place<'a>>
+        ensures { IsNone result ↔ (PLACES ≤ number) }
+    {
+        let Some(rest) = number.checked_sub(HEADER) else {
+            return Place::of_header(&mut plan.header, number);
+        };
+        let component = match rest / COMPONENT {
+            0 => &mut plan.y,
+            1 => &mut plan.cb,
+            2 => &mut plan.cr,
+            _ => return None,
+        };
+        Place::of_component(component, rest % COMPONENT)
     }
-}
 
-fn put_header(given: Header, place: usize, v: u64) -> Header {
-    let mut h = given;
-    match place {
-        0 => h.profile = byte(v),
-        1 => h.level = byte(v),
-        2 => h.d = byte(v),
-        3 => h.bl = byte(v),
-        4 => h.el = byte(v),
-        5 => h.hdr = byte(v),
-        6 => h.disabled = byte(v),
-        7 => h.columns = short(v),
-        8 => h.pairs = short(v),
-        9 => h.brightest = short(v),
-        _ => h.darkest = word(v),
+    fn of_header(h: &'a mut Header, number: usize) -> Option<Place<'a>>
+        ensures { IsNone result ↔ (HEADER ≤ number) }
+    {
+        Some(match number {
+            0 => Place::Byte(&mut h.profile),
+            1 => Place::Byte(&mut h.level),
+            2 => Place::Byte(&mut h.d),
+            3 => Place::Byte(&mut h.bl),
+            4 => Place::Byte(&mut h.el),
+            5 => Place::Byte(&mut h.hdr),
+            6 => Place::Byte(&mut h.disabled),
+            7 => Place::Short(&mut h.columns),
+            8 => Place::Short(&mut h.pairs),
+            9 => Place::Short(&mut h.brightest),
+            10 => Place::Word(&mut h.darkest),
+            _ => return None,
+        })
     }
-    h
-}
 
-fn put_piece(given: Piece, place: usize, v: u64) -> Piece {
-    let mut q = given;
-    if place == 0 {
-        q.idc = byte(v);
-    } else if place < FIRST_COEFFICIENT {
-        q.order = byte(v);
-    } else if place < PIECE {
-        q.row[place - FIRST_COEFFICIENT] = signed(v);
+    fn of_component(c: &'a mut Component, number: usize) -> Option<Place<'a>>
+        ensures { IsNone result ↔ (COMPONENT ≤ number) }
+    {
+        if number < FIRST_PIVOT {
+            Some(Place::Byte(&mut c.n))
+        } else if number < FIRST_PIECE {
+            Some(Place::Short(&mut c.preds[number - FIRST_PIVOT]))
+        } else if number < NLQ {
+            let number = number - FIRST_PIECE;
+            Place::of_piece(&mut c.pieces[number / PIECE], number % PIECE)
+        } else {
+            Place::of_nlq(&mut c.nlq, number - NLQ)
+        }
     }
-    q
-}
 
-fn put_nlq(given: Nlq, place: usize, v: u64) -> Nlq {
-    let mut q = given;
-    match place {
-        0 => q.offset = short(v),
-        1 => q.maximum = v,
-        2 => q.slope = v,
-        _ => q.threshold = v,
+    fn of_piece(q: &'a mut Piece, number: usize) -> Option<Place<'a>>
+        ensures { IsNone result ↔ (PIECE ≤ number) }
+    {
+        match number {
+            0 => Some(Place::Byte(&mut q.idc)),
+            1 => Some(Place::Byte(&mut q.order)),
+            _ => q.row.get_mut(number - FIRST_COEFFICIENT).map(Place::Signed),
+        }
     }
-    q
-}
 
-fn put_component(given: Component, place: usize, v: u64) -> Component {
-    let mut c = given;
-    if place < FIRST_PIVOT {
-        c.n = byte(v);
-    } else if place < FIRST_PIECE {
-        c.preds[place - FIRST_PIVOT] = short(v);
-    } else if place < NLQ {
-        let p = (place - FIRST_PIECE) / PIECE;
-        let q = c.pieces[p];
-        c.pieces[p] = put_piece(q, (place - FIRST_PIECE) % PIECE, v);
-    } else {
-        let q = c.nlq;
-        c.nlq = put_nlq(q, place - NLQ, v);
+    fn of_nlq(q: &'a mut Nlq, number: usize) -> Option<Place<'a>>
+        ensures { IsNone result ↔ (4 ≤ number) }
+    {
+        Some(match number {
+            0 => Place::Short(&mut q.offset),
+            1 => Place::Long(&mut q.maximum),
+            2 => Place::Long(&mut q.slope),
+            3 => Place::Long(&mut q.threshold),
+            _ => return None,
+        })
     }
-    c
-}
 
-pub(crate) fn put(given: Plan, place: usize, v: u64) -> Plan {
-    let mut plan = given;
-    if place < HEADER {
-        let h = plan.header;
-        plan.header = put_header(h, place, v);
-    } else if place < HEADER + COMPONENT {
-        let c = plan.y;
-        plan.y = put_component(c, place - HEADER, v);
-    } else if place < HEADER + 2 * COMPONENT {
-        let c = plan.cb;
-        plan.cb = put_component(c, place - HEADER - COMPONENT, v);
-    } else {
-        let c = plan.cr;
-        plan.cr = put_component(c, place - HEADER - 2 * COMPONENT, v);
+    // A value has 64 bits, of which a narrower field takes the lowest.
+    pub fn put(self, v: u64) {
+        match self {
+            Place::Byte(place) => *place = (v & 0xff) as u8,
+            Place::Short(place) => *place = (v & 0xffff) as u16,
+            Place::Word(place) => *place = (v & 0xffff_ffff) as u32,
+            Place::Long(place) => *place = v,
+            Place::Signed(place) => *place = v.cast_signed(),
+        }
     }
-    plan
+
+    pub fn value(&self) -> i128
+        ensures { result ≡ held self.now }
+    {
+        match self {
+            Place::Byte(place) => i128::from(**place),
+            Place::Short(place) => i128::from(**place),
+            Place::Word(place) => i128::from(**place),
+            Place::Long(place) => i128::from(**place),
+            Place::Signed(place) => i128::from(**place),
+        }
+    }
 }

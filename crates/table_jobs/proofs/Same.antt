@@ -11,7 +11,7 @@ use lib.ListN.{length, get_or, get_or-eq_default}
 use lib.Pow.{pow_pos}
 use borrow.Author.Tests.{eqb-true, eq-eqb}
 use Rattle.runs.specs.Runs.{painted}
-use Rattle.runs.proofs.Between.{lt_or_ge}
+use Rattle.std.proofs.lemmas.Bool.{cases_lt}
 use Rattle.runs.proofs.Painting.{painted_cong}
 use Rattle.standard.specs.Mapping.{mapped}
 use Rattle.standard.specs.Residual.{reconstructed}
@@ -73,7 +73,7 @@ unfolding composed_by names
 same_composed g n a is i named = go g.source refl
   where
     code : get_or g.base i 0 < 2 ^ bl_depth g.plan.header
-    code = ⊎_elim (λ b. a.base_small i b named) (λ b. rw (get_or-eq_default g.base 0 b) (pow_pos (bl_depth g.plan.header))) (lt_or_ge i (length g.base))
+    code = ⊎_elim (λ b. a.base_small i b named) (λ b. rw (get_or-eq_default g.base 0 b) (pow_pos (bl_depth g.plan.header))) (cases_lt i (length g.base))
 
     go : (s : Source) → g.source ≡ s → composed_by s g.plan g.base g.enhancement i ≡ composed_at g.plan g.base g.enhancement i
     go by_plan e = refl

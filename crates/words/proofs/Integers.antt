@@ -1,7 +1,9 @@
 -- Laws of ℤ that the logic's library lacks. Assumes nothing.
-use mathlib.Core.Path.{◌≡◌, sym, ap, ap₂, ◌∙◌}
+use mathlib.Core.Path.{◌≡◌, sym, ap, ◌∙◌}
 use Prim.Native.Nat.{ℕ, zero, suc, ◌+◌}
-use lib.IntN.{ℤ, pos, negsuc, neg_ℤ, suc_ℤ, pred_ℤ, ◌+ℤ◌, ◌-ℤ◌, ◌*ℤ◌, +ℤ_idr, +ℤ_assoc, +ℤ_comm, +ℤ-suc_ℤ, +ℤ-pred_ℤ, pos-+ℤ-pos, zero-*ℤ, suc_ℤ-*ℤ, pred_ℤ-*ℤ, *ℤ_comm}
+use native.Mathlib.Omega.{arith}
+use Rattle.std.proofs.lemmas.Int.{ints}
+use lib.IntN.{ℤ, pos, negsuc, neg_ℤ, suc_ℤ, pred_ℤ, ◌+ℤ◌, ◌-ℤ◌, ◌*ℤ◌, +ℤ_idr, +ℤ_assoc, +ℤ-suc_ℤ, +ℤ-pred_ℤ, zero-*ℤ, suc_ℤ-*ℤ, pred_ℤ-*ℤ}
 
 -- (a + b) k = a k + b k, from b to its neighbours
 module _ (a k : ℤ) where
@@ -28,14 +30,7 @@ distrib a (negsuc n) k = at_neg a k n
 
 -- k (a + b) = k a + k b, of numbers that are not negative
 pub distrib_pos : (k : ℤ) (a b : ℕ) → k *ℤ pos (a + b) ≡ k *ℤ pos a +ℤ k *ℤ pos b
-distrib_pos k a b =
-    *ℤ_comm k (pos (a + b))
-    ∙ ap (λ (z : ℤ). z *ℤ k) (sym (pos-+ℤ-pos a b))
-    ∙ distrib (pos a) (pos b) k
-    ∙ ap₂ ◌+ℤ◌ (*ℤ_comm (pos a) k) (*ℤ_comm (pos b) k)
+distrib_pos k a b = grind (arith, ints)
 
 pub swap_terms : (a b c d : ℤ) → (a +ℤ b) +ℤ (c +ℤ d) ≡ (a +ℤ c) +ℤ (b +ℤ d)
-swap_terms a b c d =
-    +ℤ_assoc a b (c +ℤ d)
-    ∙ ap (λ (z : ℤ). a +ℤ z) (sym (+ℤ_assoc b c d) ∙ ap (λ (z : ℤ). z +ℤ d) (+ℤ_comm b c) ∙ +ℤ_assoc c b d)
-    ∙ sym (+ℤ_assoc a c (b +ℤ d))
+swap_terms a b c d = omega (arith, ints)

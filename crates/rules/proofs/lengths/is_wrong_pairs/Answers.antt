@@ -4,14 +4,14 @@ use Prim.Native.Nat.{ℕ, ◌+◌, ◌-◌, ◌≤◌}
 use borrow.Author.Tests.{eq-eqb, ne_eqb, lt-ltb, le-ltb}
 use native.Mathlib.Omega.{arith}
 use lib.Dec.{ltb}
-use Rattle.runs.proofs.Between.{lt_or_ge}
+use Rattle.std.proofs.lemmas.Bool.{cases_lt}
 use Rattle.rules.specs.Rules.{wrong_pairs}
 use Rattle.rules.proofs.lengths.is_wrong_pairs.Goals as goal
 
 -- a test of a difference is one of a sum
 moved : (p f n : ℕ) → (n ≡ 0 → ⊥) → ltb (p - f) n ≡ ltb p (f + n)
 moved p f n h =
-    ⊎_elim (λ l. lt-ltb (p - f) n (omega arith) ∙ sym (lt-ltb p (f + n) l)) (λ g. le-ltb (p - f) n (omega arith) ∙ sym (le-ltb p (f + n) g)) (lt_or_ge p (f + n))
+    ⊎_elim (λ l. lt-ltb (p - f) n (omega arith) ∙ sym (lt-ltb p (f + n) l)) (λ g. le-ltb (p - f) n (omega arith) ∙ sym (le-ltb p (f + n) g)) (cases_lt p (f + n))
 
 pub returns-then-count-eq0 : goal.returns-then-count-eq0
 unfolding wrong_pairs
