@@ -18,7 +18,8 @@ use Rattle.std.specs.Prelude.{Some, None}
 use borrow.Author.Tests.{eqb-true, eq-eqb, ne_eqb}
 use Rattle.runs.specs.Runs.{painted, between}
 use Rattle.runs.specs.inner.Loops.{at}
-use Rattle.runs.proofs.Between.{lt_or_ge, in_between, under-between, over-between, between_true}
+use Rattle.std.proofs.lemmas.Bool.{cases_lt}
+use Rattle.runs.proofs.Between.{in_between, under-between, over-between, between_true}
 use Rattle.runs.proofs.Painting.{length-painted, at-painted, is_painted, painted_cong, painted_on}
 use Rattle.refusals.specs.Refusals.{rule, Outcome, granted, denied}
 use Rattle.refusals.proofs.Laws.{none_met, not_off, outcome-granted, outcome-denied}
@@ -146,8 +147,8 @@ part_painted mapped t from codes h b =
     (λ p. ⊎_elim
     (λ q. part_within mapped t from codes _ h b e i p q ∙ sym (ap (λ (u : Bool). cond u (at mapped (i - from)) (get_or t i 0)) (in_between from (from + codes) i p q)))
     (λ q. part_behind mapped t from codes _ h b e i q m ∙ sym (ap (λ (u : Bool). cond u (at mapped (i - from)) (get_or t i 0)) (over-between from (from + codes) i q)))
-    (lt_or_ge i (from + codes)))
-    (lt_or_ge i from))
+    (cases_lt i (from + codes)))
+    (cases_lt i from))
 
 -- ---- the parts
 module _ (p : Plan) (t : List ℕ) (ok : Accepted p (length t)) where

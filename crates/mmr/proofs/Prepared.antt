@@ -11,7 +11,7 @@ use lib.IntN.{ℤ, pos, nat_abs}
 use lib.ListN.{length}
 use borrow.Author.Tests.{eqb-true, leb-true, le-ltb}
 use Rattle.runs.specs.inner.Loops.{at}
-use Rattle.runs.proofs.Between.{lt_or_ge}
+use Rattle.std.proofs.lemmas.Bool.{cases_lt}
 use Rattle.standard.specs.Mapping.{pivot_idx, cut}
 use Rattle.standard.proofs.Pieces.{idx_le}
 use Rattle.plan.specs.declared.Piece.{Piece}
@@ -89,7 +89,7 @@ module _ (most used : ℕ) (row : List ℤ) (long : length row ≡ row_places) (
   low false z q = omega (arith, eqb-true (nat_abs z) 0 q)
 
   pub row_low : (i : ℕ) → nat_abs (coef row i) ≤ most
-  row_low i = ⊎_elim (λ b. low (ltb i used) (coef row i) (place i b)) (λ b. past (beyond row (pos 0) i (omega (arith, long)))) (lt_or_ge i row_places)
+  row_low i = ⊎_elim (λ b. low (ltb i used) (coef row i) (place i b)) (λ b. past (beyond row (pos 0) i (omega (arith, long)))) (cases_lt i row_places)
     where
       past : coef row i ≡ pos 0 → nat_abs (coef row i) ≤ most
       past z = rw z zero-le
@@ -108,7 +108,7 @@ module _ (d : ℕ) (c : Component) (s : Ready) (g : ReadySide d c s) where
 
   -- a coefficient of a piece that is used, or of none
   coefficient : (most : ℕ) (kind : Kind) → (kind ≡ Broken → ⊥) → ((q : Piece) → kind_of d q ≡ kind → row_within most (coefficients_used q.idc q.order) q.row ≡ true) → (p : ℕ) → kind_at s p ≡ kind → (i : ℕ) → nat_abs (coef (row_of s p) i) ≤ most
-  coefficient most kind other says p e i = le_trans (le_of_eq (ap (λ (r : List ℤ). nat_abs (coef r i)) (same_row p))) (⊎_elim of_used (λ h. ⊎_elim (λ b. absurd (other (sym e ∙ g.kinds.rest p h b))) none (lt_or_ge p piece_places)) (lt_or_ge p (pieces_used c.n)))
+  coefficient most kind other says p e i = le_trans (le_of_eq (ap (λ (r : List ℤ). nat_abs (coef r i)) (same_row p))) (⊎_elim of_used (λ h. ⊎_elim (λ b. absurd (other (sym e ∙ g.kinds.rest p h b))) none (cases_lt p piece_places)) (cases_lt p (pieces_used c.n)))
     where
       of_used : p < pieces_used c.n → nat_abs (coef (piece_at c p).row i) ≤ most
       of_used h =

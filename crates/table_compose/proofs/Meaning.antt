@@ -14,7 +14,8 @@ use lib.Pow.{pow_mono}
 use Rattle.runs.specs.Runs.{painted, between}
 use Rattle.runs.specs.inner.Loops.{at}
 use Rattle.runs.specs.inner.Tables.{table}
-use Rattle.runs.proofs.Between.{between_true, lt_or_ge}
+use Rattle.std.proofs.lemmas.Bool.{cases_lt}
+use Rattle.runs.proofs.Between.{between_true}
 use Rattle.runs.proofs.Painting.{painted_cong, length-painted}
 use Rattle.runs.proofs.Parts.{part, length_part, at_part}
 use Rattle.runs.proofs.Tables.{length-table, at_table}
@@ -63,7 +64,7 @@ copied l c n least is =
     ∙ get_or-drop n zeros (i - length c) 0
     ∙ get_or-replicate 1024 (n + (i - length c)) 0 0 (omega (arith, long))
     ∙ sym (get_or-eq_default l 0 (omega (arith, least))))
-    (lt_or_ge i n)
+    (cases_lt i n)
     ∙ sym (at_table 1024 (at l) i k))
   where
     long : length c ≡ n
@@ -74,7 +75,7 @@ copied l c n least is =
 
 pub low_copy : (l : List ℕ) → ((i : ℕ) → at l i < 65536) → (i : ℕ) → at (table 1024 (at l)) i ≤ 65535
 low_copy l low i =
-    ⊎_elim (λ k. rw (at_table 1024 (at l) i k) (omega (arith, low i))) (λ k. let past : length (table 1024 (at l)) ≤ i = omega (arith, length-table 1024 (at l)) in rw (get_or-eq_default (table 1024 (at l)) 0 past) (omega arith)) (lt_or_ge i 1024)
+    ⊎_elim (λ k. rw (at_table 1024 (at l) i k) (omega (arith, low i))) (λ k. let past : length (table 1024 (at l)) ≤ i = omega (arith, length-table 1024 (at l)) in rw (get_or-eq_default (table 1024 (at l)) 0 past) (omega arith)) (cases_lt i 1024)
 
 -- ---- the planes
 module _ (h : Header) (r : Rows) (t base output : List ℕ) (g : Lent h r t base output) where
