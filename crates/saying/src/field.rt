@@ -17,7 +17,7 @@ const POLYNOMIAL: u8 = 0; // mapping_idc
 // Each order of MMR has so many coefficients.
 const TERMS: usize = 7;
 
-// Left-over bytes are no field.
+// A kind is a number in what `block::read` answers. Left-over bytes are no field.
 fn name_of(kind: u8) -> &'static str {
     match kind {
         NUM_PIVOTS_MINUS2 => "num_pivots_minus2",

@@ -27,6 +27,7 @@ pub(crate) fn place_of(kind: u8) -> usize {
     }
 }
 
+// A kind is a number in what `block::read` answers.
 fn name_of(kind: u8) -> &'static str {
     match kind {
         PROFILE => "ccm_profile",
