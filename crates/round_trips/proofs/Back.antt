@@ -15,7 +15,7 @@ use Rattle.plan.specs.Ranges.{header_fits}
 use Rattle.plan.specs.inner.Facts.{HeaderFacts, Arrays, Sized}
 use Rattle.plan.proofs.Truths.{both}
 use Rattle.plan.proofs.Facts.{header-kept, y_usable}
-use Rattle.fields.specs.Fields.{got, no_name}
+use Rattle.fields.specs.Fields.{got}
 use Rattle.sections.specs.Sections.{section}
 use Rattle.frame.specs.declared.Trailer.{Trailer}
 use Rattle.frame.specs.Frame.{trailer, trailer_fits, header, zeros_fit}
@@ -33,7 +33,7 @@ use Rattle.round_trips.proofs.Frames.{header_back, zeros_back, trailer_back, hea
 
 -- what reading answers of a block that it accepts
 abbrev pub accepted : Plan → Reading
-accepted p = record { number = 0; place = 0; field = no_name; plan = p }
+accepted p = record { number = 0; place = 0; field = None; plan = p }
 
 -- a part that stands between two others
 part_at : (a b c : List ℕ) (x y : ℕ) → x ≡ length a → y ≡ length a + length b → part (a ++ (b ++ c)) x y ≡ b
@@ -138,8 +138,11 @@ module _ (p : Plan) (version : ℕ) (writes : writable p version ≡ true) (size
   read_head : header (part bytes (t - x.a) (t - x.d0)) ≡ p.header
   read_head = ap header head_part ∙ header_back p.header
 
-  good : (header_fits (header (part bytes (t - x.a) (t - x.d0))) && zeros_fit (part bytes (t - x.a) (t - x.d0))) ≡ true
-  good = rw (read_head, head_fits, head_part) (zeros_back p.header)
+  good_head : header_fits (header (part bytes (t - x.a) (t - x.d0))) ≡ true
+  good_head = rw read_head head_fits
+
+  good_zeros : zeros_fit (part bytes (t - x.a) (t - x.d0)) ≡ true
+  good_zeros = rw head_part (zeros_back p.header)
 
   all_read : sections bytes t x p.header ≡ accepted p
   unfolding sections met
@@ -150,4 +153,4 @@ module _ (p : Plan) (version : ℕ) (writes : writable p version ≡ true) (size
       let long : 12 ≤ length bytes = omega (arith, size) in
       let near : (trailer (tail bytes)).a ≤ t = rw is_trailer (omega (arith, size)) in
       sym (goes_on bytes long (ap trailer_fits is_trailer ∙ points) near) ∙ ap (body bytes t) is_trailer
-      ∙ sym (good_header bytes t x good) ∙ ap (sections bytes t x) read_head ∙ all_read
+      ∙ sym (good_header bytes t x good_head good_zeros) ∙ ap (sections bytes t x) read_head ∙ all_read
