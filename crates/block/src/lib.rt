@@ -8,7 +8,7 @@ ghost use Rattle.block.specs.Facts.{Sound, LastBytes};
 ghost use Rattle.block.specs.inner.Placed.{Placed};
 ghost use Rattle.block.specs.inner.Answering.{Answers, said, denied};
 
-use fields::{Name, nameless};
+use fields::Name;
 use frame::columns::wrong_column;
 use frame::{Trailer, read_header, read_trailer, trailer_fits, zeros_fit};
 use plan::{Component, Header, Plan};
@@ -22,7 +22,7 @@ use sections::{FittingHeader, read_section};
 pub struct Reading {
     pub number: u8,
     pub place: usize,
-    pub field: Name,
+    pub field: Option<Name>,
     pub plan: Plan,
 }
 
@@ -31,7 +31,7 @@ pub struct Reading {
 struct Fault {
     refusal: Refusal,
     place: usize,
-    field: Name,
+    field: Option<Name>,
 }
 
 // A refused block hands back nothing of what was read.
@@ -65,7 +65,7 @@ fn part(
         Err(failure) => Err(Fault {
             refusal: failure.refusal,
             place: a + (b - a).saturating_sub(rest.len()),
-            field: failure.name,
+            field: Some(failure.name),
         }),
     }
 }
@@ -129,7 +129,7 @@ fn plan_of(bytes: &[u8]) -> Result<Plan, Fault>
     let short = Fault {
         refusal: Refusal::Short,
         place: 0,
-        field: nameless(),
+        field: None,
     };
     if bytes.len() < 12 {
         return Err(short);
@@ -140,7 +140,7 @@ fn plan_of(bytes: &[u8]) -> Result<Plan, Fault>
         return Err(Fault {
             refusal: Refusal::Trailer,
             place: t,
-            field: nameless(),
+            field: None,
         });
     }
     // The rest of rule 1 comes after rule 2: only a trailer that passes is believed.
@@ -159,7 +159,7 @@ pub fn read(bytes: &[u8]) -> Reading
         Ok(plan) => Reading {
             number: 0,
             place: 0,
-            field: nameless(),
+            field: None,
             plan,
         },
         Err(fault) => refused(fault),

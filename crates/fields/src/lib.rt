@@ -2,20 +2,22 @@
 // or it answers which field failed and by which rule, and what is left then begins with that field.
 #![tactic(auto)]
 
+pub mod kinds; // the kinds of fields
 pub mod numbers; // big-endian numbers that stand at a place
 
 ghost use Rattle.std.specs.Prelude.{true, ◌≡◌, ◌<◌, ◌≤◌, leb, ltb, IfOk};
 ghost use Rattle.refusals.specs.Refusals.{number_of};
-ghost use Rattle.fields.specs.Fields.{no_name, field, ended};
+ghost use Rattle.fields.specs.Fields.{field, ended};
 ghost use Rattle.fields.specs.inner.Readers.{as_read};
 
+use kinds::Kind;
 use numbers::{number, width_of};
 use refusals::Refusal;
 
-// Which field: a kind, by the numbers of the crate that reads it, and as many indices as it has.
+// Which field: a kind, and as many indices as it has.
 #[derive(Clone, Copy)]
 pub struct Name {
-    pub kind: u8,
+    pub kind: Kind,
     pub first: usize,
     pub second: usize,
     pub third: usize,
@@ -41,18 +43,6 @@ pub struct Ask {
 pub struct Failure {
     pub refusal: Refusal,
     pub name: Name,
-}
-
-// The name of no field.
-pub fn nameless() -> Name
-    ensures { result ≡ no_name }
-{
-    Name {
-        kind: 0,
-        first: 0,
-        second: 0,
-        third: 0,
-    }
 }
 
 // A field, whatever it holds.

@@ -2,14 +2,10 @@
 use crate::fixed::power;
 use crate::{say, say_line, say_number, size};
 use fields::Name;
+use fields::kinds::Kind;
 use fields::numbers::{four, one, two};
 use plan::limits::MOST_N;
 use plan::methods::{MMR, integer_limit, most_idc, most_order};
-use section_fields::kinds::{
-    HDR_IN_MAX_INT, MAPPING_IDC, MMR_COEF, MMR_COEF_INT, MMR_CONSTANT, MMR_CONSTANT_INT,
-    MMR_ORDER_MINUS1, NLQ_OFFSET, NUM_PIVOTS_MINUS2, POLY_COEF, POLY_COEF_INT, POLY_ORDER_MINUS1,
-    PRED_PIVOT_VALUE, SLOPE_INT, THRESHOLD_INT,
-};
 use section_fields::signed;
 
 const POLYNOMIAL: u8 = 0; // mapping_idc
@@ -18,13 +14,13 @@ const POLYNOMIAL: u8 = 0; // mapping_idc
 const TERMS: usize = 7;
 
 // The name is at the line of its kind; left-over bytes are no field.
-fn say_kind(kind: usize) {
+fn say_kind(kind: Kind) {
     say_line(
-        b"\nnum_pivots_minus2\npred_pivot_value\nmapping_idc\npoly_order_minus1\npoly_coef_int\npoly_coef\nnlq_offset\n\
+        b"num_pivots_minus2\npred_pivot_value\nmapping_idc\npoly_order_minus1\npoly_coef_int\npoly_coef\nnlq_offset\n\
         hdr_in_max_int\nhdr_in_max\nlinear_deadzone_slope_int\nlinear_deadzone_slope\n\
         linear_deadzone_threshold_int\nlinear_deadzone_threshold\n\n\
         mmr_order_minus1\nmmr_constant_int\nmmr_constant\nmmr_coef_int\nmmr_coef\n",
-        kind,
+        kind as usize,
     );
 }
 
@@ -46,17 +42,17 @@ pub fn say_mmr_indices(place: usize) {
 fn say_indices(field: Name) {
     say_index(field.first);
     match field.kind {
-        PRED_PIVOT_VALUE
-        | MAPPING_IDC
-        | POLY_ORDER_MINUS1
-        | MMR_ORDER_MINUS1
-        | MMR_CONSTANT_INT
-        | MMR_CONSTANT => say_index(field.second),
-        POLY_COEF_INT | POLY_COEF => {
+        Kind::PredPivotValue
+        | Kind::MappingIdc
+        | Kind::PolyOrderMinus1
+        | Kind::MmrOrderMinus1
+        | Kind::MmrConstantInt
+        | Kind::MmrConstant => say_index(field.second),
+        Kind::PolyCoefInt | Kind::PolyCoef => {
             say_index(field.second);
             say_index(field.third);
         }
-        MMR_COEF_INT | MMR_COEF => {
+        Kind::MmrCoefInt | Kind::MmrCoef => {
             say_index(field.second);
             say_mmr_indices(field.third);
         }
@@ -105,16 +101,16 @@ fn say_integer(idc: u8, v: u32) {
 
 // What stands at the place of a field of section k. Its limits are made of the header's numbers, which rule 4 has
 // passed.
-fn say_value(kind: u8, k: usize, s: &[u8], samples: usize, fractions: usize) {
+fn say_value(kind: Kind, k: usize, s: &[u8], samples: usize, fractions: usize) {
     match kind {
-        NUM_PIVOTS_MINUS2 => say_at_most(one(s, 0), MOST_N),
-        PRED_PIVOT_VALUE | NLQ_OFFSET => say_less_than(two(s, 0) as usize, samples),
-        MAPPING_IDC => say_method(one(s, 0), k),
-        POLY_ORDER_MINUS1 => say_at_most(one(s, 0), most_order(POLYNOMIAL)),
-        MMR_ORDER_MINUS1 => say_at_most(one(s, 0), most_order(MMR)),
-        POLY_COEF_INT => say_integer(POLYNOMIAL, one(s, 0) as u32),
-        MMR_CONSTANT_INT | MMR_COEF_INT => say_integer(MMR, four(s, 0)),
-        HDR_IN_MAX_INT | SLOPE_INT | THRESHOLD_INT => say_at_most(one(s, 0), 1),
+        Kind::NumPivotsMinus2 => say_at_most(one(s, 0), MOST_N),
+        Kind::PredPivotValue | Kind::NlqOffset => say_less_than(two(s, 0) as usize, samples),
+        Kind::MappingIdc => say_method(one(s, 0), k),
+        Kind::PolyOrderMinus1 => say_at_most(one(s, 0), most_order(POLYNOMIAL)),
+        Kind::MmrOrderMinus1 => say_at_most(one(s, 0), most_order(MMR)),
+        Kind::PolyCoefInt => say_integer(POLYNOMIAL, one(s, 0) as u32),
+        Kind::MmrConstantInt | Kind::MmrCoefInt => say_integer(MMR, four(s, 0)),
+        Kind::HdrInMaxInt | Kind::SlopeInt | Kind::ThresholdInt => say_at_most(one(s, 0), 1),
         _ => say_less_than(four(s, 0) as usize, fractions),
     }
 }
@@ -123,7 +119,7 @@ fn say_value(kind: u8, k: usize, s: &[u8], samples: usize, fractions: usize) {
 pub(crate) fn say_field(field: Name, s: &[u8], head: &[u8]) {
     let samples = power((one(head, 3) as usize) + 8) as usize;
     let fractions = power(one(head, 2) as usize) as usize;
-    say_kind(field.kind as usize);
+    say_kind(field.kind);
     say_indices(field);
     say(b" is ");
     say_value(field.kind, field.first, s, samples, fractions);

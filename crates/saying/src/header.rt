@@ -1,28 +1,25 @@
 // A column of the header (docs/RULES.md, "Header"): its name, what was found there and what is allowed.
 use crate::{say, say_line, say_number};
+use fields::kinds::Kind;
 use fields::numbers::{four, one, two};
-use frame::kinds::{
-    BL_DEPTH, BRIGHTEST, COLUMNS, DARKEST, DENOMINATOR, DEPTHS, DISABLED, EL_DEPTH, HDR_DEPTH,
-    LEVEL, PAIRS, PROFILE, ZERO_7, ZERO_14,
-};
 use plan::limits::{MOST_COLUMNS, MOST_D, MOST_LUMINANCE, MOST_PAIRS};
 
 // A column's first byte.
-pub(crate) fn place_of(kind: u8) -> usize {
+pub(crate) fn place_of(kind: Kind) -> usize {
     match kind {
-        PROFILE => 0,
-        LEVEL => 1,
-        DENOMINATOR => 2,
-        BL_DEPTH => 3,
-        EL_DEPTH | DEPTHS => 4,
-        HDR_DEPTH => 5,
-        DISABLED => 6,
-        ZERO_7 => 7,
-        COLUMNS => 8,
-        PAIRS => 10,
-        BRIGHTEST => 12,
-        ZERO_14 => 14,
-        DARKEST => 16,
+        Kind::Profile => 0,
+        Kind::Level => 1,
+        Kind::Denominator => 2,
+        Kind::BlDepth => 3,
+        Kind::ElDepth | Kind::Depths => 4,
+        Kind::HdrDepth => 5,
+        Kind::Disabled => 6,
+        Kind::Zero7 => 7,
+        Kind::Columns => 8,
+        Kind::Pairs => 10,
+        Kind::Brightest => 12,
+        Kind::Zero14 => 14,
+        Kind::Darkest => 16,
         _ => 20,
     }
 }
@@ -72,21 +69,21 @@ fn say_darkest(brightest: u16) {
 }
 
 // The words that go by another number, or by a limit of the plan.
-fn say_limit(kind: u8, head: &[u8]) {
+fn say_limit(kind: Kind, head: &[u8]) {
     match kind {
-        EL_DEPTH => say(b"0 or 2"),
-        DEPTHS => say_depths(one(head, 3)),
-        DENOMINATOR => say_denominators(one(head, 4)),
-        COLUMNS => say_number(MOST_COLUMNS as usize),
-        PAIRS => say_number(MOST_PAIRS as usize),
-        BRIGHTEST => say_number(MOST_LUMINANCE as usize),
-        DARKEST => say_darkest(two(head, 12)),
+        Kind::ElDepth => say(b"0 or 2"),
+        Kind::Depths => say_depths(one(head, 3)),
+        Kind::Denominator => say_denominators(one(head, 4)),
+        Kind::Columns => say_number(MOST_COLUMNS as usize),
+        Kind::Pairs => say_number(MOST_PAIRS as usize),
+        Kind::Brightest => say_number(MOST_LUMINANCE as usize),
+        Kind::Darkest => say_darkest(two(head, 12)),
         _ => {}
     }
 }
 
 // The column of this kind, in the header that begins `head`.
-pub(crate) fn say_column(kind: u8, head: &[u8]) {
+pub(crate) fn say_column(kind: Kind, head: &[u8]) {
     let place = place_of(kind);
     say_name(place);
     say(b" is ");

@@ -48,13 +48,16 @@ fn say_end(bytes: &[u8], k: usize, before: usize) {
     say_place(part_at(bytes, k + 2), before);
 }
 
-fn say_found(number: u8, place: usize, field: Name, bytes: &[u8], before: usize) {
-    match number {
-        1 => say_short(bytes),
-        2 => say_trailer(bytes),
-        3 => say_end(bytes, field.first, before),
-        4 => say_column(field.kind, rest(bytes, place)),
-        _ => say_field(field, rest(bytes, place), rest(bytes, part_at(bytes, 0))),
+// Rules 1 and 2 name no field.
+fn say_found(number: u8, place: usize, field: Option<Name>, bytes: &[u8], before: usize) {
+    match field {
+        None if number == 1 => say_short(bytes),
+        None => say_trailer(bytes),
+        Some(field) => match number {
+            3 => say_end(bytes, field.first, before),
+            4 => say_column(field.kind, rest(bytes, place)),
+            _ => say_field(field, rest(bytes, place), rest(bytes, part_at(bytes, 0))),
+        },
     }
 }
 
@@ -65,7 +68,7 @@ pub fn say_refusal(
     i: usize,
     number: u8,
     place: usize,
-    field: Name,
+    field: Option<Name>,
     bytes: &[u8],
 ) {
     let before = bytes_before(rt, i, bytes);
@@ -80,11 +83,11 @@ pub fn say_refusal(
 }
 
 // The first byte of the field that reading refused: of a header, all of which is refused at its begin, the column's.
-pub fn refused_at(number: u8, place: usize, field: Name) -> usize {
-    if number == 4 {
-        return wrapping_add_usize(place, place_of(field.kind));
+pub fn refused_at(number: u8, place: usize, field: Option<Name>) -> usize {
+    match field {
+        Some(field) if number == 4 => wrapping_add_usize(place, place_of(field.kind)),
+        _ => place,
     }
-    place
 }
 
 // A refusal of a block that was made of the text that argument i names, with a line of the text in place of the byte.
@@ -95,7 +98,7 @@ pub fn say_line_refusal(
     line: usize,
     number: u8,
     place: usize,
-    field: Name,
+    field: Option<Name>,
     bytes: &[u8],
 ) {
     say_argument(rt, i);
