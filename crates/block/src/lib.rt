@@ -15,9 +15,9 @@ use plan::{Component, Header, Plan};
 use refusals::Refusal;
 use sections::{FittingHeader, read_section};
 
-// What reading comes to: 0 and the plan, or the refusal's number, the byte and the field where the failure was met, and a plan
-// of zeros. Rules 1 and 2 name no field. It is no Result: a refused block gives a plan of zeros (`Sound`), which rule 7 refuses, so
-// that a caller who does not ask for the number composes nothing.
+// What reading comes to: 0 and the plan, or the refusal's number, the byte and the field where the failure was met, and
+// a plan of zeros. Rules 1 and 2 name no field. It is no Result: a refused block gives a plan of zeros (`Sound`), which
+// rule 7 refuses, so that a caller who does not ask for the number composes nothing.
 #[derive(Clone, Copy)]
 pub struct Reading {
     pub number: u8,
@@ -47,7 +47,8 @@ fn refused(fault: Fault) -> Reading
     }
 }
 
-// Section k of a version, the bytes from a up to b. It is a part of the slice, so that its fields cannot run into the next one's.
+// Section k of a version, the bytes from a up to b. It is a part of the slice, so that its fields cannot run into the
+// next one's. The place of a failure is the definition's, whose subtraction ends at 0.
 fn part(
     bytes: &[u8],
     a: usize,

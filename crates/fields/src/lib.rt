@@ -1,5 +1,5 @@
-// Fields of bytes, read from first byte to last. A reader is lent what is left of the bytes. It answers a value and moves on past it,
-// or it answers which field failed and by which rule, and what is left then begins with that field.
+// Fields of bytes, read from first byte to last. A reader is lent what is left of the bytes. It answers a value and
+// moves on past it, or it answers which field failed and by which rule, and what is left then begins with that field.
 #![tactic(auto)]
 
 pub mod kinds; // the kinds of fields
