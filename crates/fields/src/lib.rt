@@ -61,7 +61,8 @@ pub fn raw(rest: &mut &[u8], a: Ask) -> Result<u64, Failure>
     Ok(number(bytes))
 }
 
-// A field that is below a limit.
+// A field that is below a limit. This and `at_most` are not one function that is handed the test: the call of a closure
+// needs a `requires`, and what crosses a crate has none.
 pub fn below(rest: &mut &[u8], a: Ask, limit: u64, refusal: Refusal) -> Result<u64, Failure>
     ensures value { as_read result rest.new.now ≡ field a (λ v. ltb v limit) (λ v. number_of refusal) rest.old.now }
     ensures small { IfOk result (λ v. v < limit) }
