@@ -8,21 +8,21 @@ ghost use Rattle.block.specs.Facts.{Sound, LastBytes};
 ghost use Rattle.block.specs.inner.Placed.{Placed};
 ghost use Rattle.block.specs.inner.Answering.{Answers, said, denied};
 
-use fields::{Name, nameless};
+use fields::Name;
 use frame::columns::wrong_column;
 use frame::{Trailer, read_header, read_trailer, trailer_fits, zeros_fit};
 use plan::{Component, Header, Plan};
 use refusals::Refusal;
 use sections::{FittingHeader, read_section};
 
-// What reading comes to: 0 and the plan, or the refusal's number, the byte and the field where the failure was met, and a plan
-// of zeros. Rules 1 and 2 name no field. It is no Result: a refused block gives a plan of zeros (`Sound`), which rule 7 refuses, so
-// that a caller who does not ask for the number composes nothing.
+// What reading comes to: 0 and the plan, or the refusal's number, the byte and the field where the failure was met, and
+// a plan of zeros. Rules 1 and 2 name no field. It is no Result: a refused block gives a plan of zeros (`Sound`), which
+// rule 7 refuses, so that a caller who does not ask for the number composes nothing.
 #[derive(Clone, Copy)]
 pub struct Reading {
     pub number: u8,
     pub place: usize,
-    pub field: Name,
+    pub field: Option<Name>,
     pub plan: Plan,
 }
 
@@ -31,7 +31,7 @@ pub struct Reading {
 struct Fault {
     refusal: Refusal,
     place: usize,
-    field: Name,
+    field: Option<Name>,
 }
 
 // A refused block hands back nothing of what was read.
@@ -47,7 +47,8 @@ fn refused(fault: Fault) -> Reading
     }
 }
 
-// Section k of a version, the bytes from a up to b. It is a part of the slice, so that its fields cannot run into the next one's.
+// Section k of a version, the bytes from a up to b. It is a part of the slice, so that its fields cannot run into the
+// next one's. The place of a failure is the definition's, whose subtraction ends at 0.
 fn part(
     bytes: &[u8],
     a: usize,
@@ -65,7 +66,7 @@ fn part(
         Err(failure) => Err(Fault {
             refusal: failure.refusal,
             place: a + (b - a).saturating_sub(rest.len()),
-            field: failure.name,
+            field: Some(failure.name),
         }),
     }
 }
@@ -129,7 +130,7 @@ fn plan_of(bytes: &[u8]) -> Result<Plan, Fault>
     let short = Fault {
         refusal: Refusal::Short,
         place: 0,
-        field: nameless(),
+        field: None,
     };
     if bytes.len() < 12 {
         return Err(short);
@@ -140,7 +141,7 @@ fn plan_of(bytes: &[u8]) -> Result<Plan, Fault>
         return Err(Fault {
             refusal: Refusal::Trailer,
             place: t,
-            field: nameless(),
+            field: None,
         });
     }
     // The rest of rule 1 comes after rule 2: only a trailer that passes is believed.
@@ -159,7 +160,7 @@ pub fn read(bytes: &[u8]) -> Reading
         Ok(plan) => Reading {
             number: 0,
             place: 0,
-            field: nameless(),
+            field: None,
             plan,
         },
         Err(fault) => refused(fault),

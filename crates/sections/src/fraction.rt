@@ -5,9 +5,10 @@ ghost use Rattle.section_fields.specs.Fields.{ranged};
 ghost use Rattle.sections.specs.Sections.{coefficient, unsigned};
 
 use crate::header::FittingHeader;
+use fields::kinds::Kind;
 use fields::{Ask, Failure, Width, at_most, below};
 use refusals::Refusal;
-use section_fields::{asked, fraction_asked, integer, signed};
+use section_fields::{asked, fraction_asked, fraction_kind, integer, signed};
 
 // 2 ^ k: what a number of k bits is below.
 fn power(k: u8) -> u64
@@ -46,19 +47,18 @@ pub(crate) fn coefficient(
     Ok(a * (one as i64) + (f as i64))
 }
 
-// A number whose integer part is 0 or 1: the kind is the integer part's, and the fraction's is one more.
+// A number whose integer part is 0 or 1, by its integer part's kind.
 pub(crate) fn unsigned(
     rest: &mut &[u8],
     h: FittingHeader,
     k: usize,
-    kind: u8,
+    kind: Kind,
 ) -> Result<u64, Failure>
-    requires { kind < 255 }
     ensures { as_read result rest.new.now ≡ unsigned h.header k kind rest.old.now }
 {
     let bits = h.fraction_bits();
     let one = power(bits);
     let n = at_most(rest, asked(kind, k, 0, 0, Width::One), 1, Refusal::Field)?;
-    let f = below_power(rest, asked(kind + 1, k, 0, 0, Width::Four), bits)?;
+    let f = below_power(rest, asked(fraction_kind(kind), k, 0, 0, Width::Four), bits)?;
     Ok(n * one + f)
 }

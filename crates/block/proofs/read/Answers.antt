@@ -5,4 +5,4 @@ use Rattle.block.proofs.Answers.{sound}
 use Rattle.block.proofs.read.Goals as goal
 
 pub returns-in-Ok-clause-sound : goal.returns-in-Ok-clause-sound
-returns-in-Ok-clause-sound c = subst Sound (sym (rw c.nameless.ensures c.in-Ok.ensures)) (sound c.args.bytes.now)
+returns-in-Ok-clause-sound c = subst Sound (sym c.in-Ok.ensures) (sound c.args.bytes.now)
