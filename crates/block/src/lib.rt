@@ -11,9 +11,10 @@ ghost use Rattle.block.specs.inner.Answering.{Answers, said, denied};
 use fields::Name;
 use frame::columns::wrong_column;
 use frame::{Trailer, read_header, read_trailer, trailer_fits, zeros_fit};
+use plan::ranges::FittingHeader;
 use plan::{Component, Header, Plan};
 use refusals::Refusal;
-use sections::{FittingHeader, read_section};
+use sections::read_section;
 
 // What reading comes to: 0 and the plan, or the refusal's number, the byte and the field where the failure was met, and
 // a plan of zeros. Rules 1 and 2 name no field. It is no Result: a refused block gives a plan of zeros (`Sound`), which
@@ -110,7 +111,7 @@ fn body(bytes: &[u8], t: usize, x: Trailer) -> Result<Plan, Fault>
     let b = t - (x.d0 as usize);
     let head = &bytes[a..b];
     let header = read_header(head);
-    match FittingHeader::new(header) {
+    match FittingHeader::of(header) {
         Some(h) => {
             if zeros_fit(head) {
                 sections(bytes, t, x, h)

@@ -5,11 +5,11 @@ ghost use Rattle.fields.specs.inner.Readers.{as_read, filled};
 ghost use Rattle.sections.specs.Sections.{pivot, nlq, section};
 
 use crate::fraction::{below_power, unsigned};
-use crate::header::FittingHeader;
 use crate::pieces::held;
 use fields::kinds::Kind;
 use fields::{Failure, Width, at_most, ended};
 use plan::limits::{MOST_N, PIVOTS};
+use plan::ranges::FittingHeader;
 use plan::{Component, Nlq};
 use refusals::Refusal;
 use section_fields::asked;
@@ -26,7 +26,7 @@ fn pivots(
     let mut preds = [0; PIVOTS];
     for i in 0..count {
         let a = asked(Kind::PredPivotValue, k, i, 0, Width::Two);
-        preds[i] = below_power(rest, a, h.pivot_bits())? as u16;
+        preds[i] = below_power(rest, a, h.bl_depth())? as u16;
     }
     Ok(preds)
 }
@@ -35,7 +35,7 @@ fn nlq(rest: &mut &[u8], h: FittingHeader, k: usize) -> Result<Nlq, Failure>
     ensures { as_read result rest.new.now ≡ nlq h.header k rest.old.now }
 {
     let a = asked(Kind::NlqOffset, k, 0, 0, Width::Two);
-    let offset = below_power(rest, a, h.offset_bits())? as u16;
+    let offset = below_power(rest, a, h.el_depth())? as u16;
     let maximum = unsigned(rest, h, k, Kind::HdrInMaxInt)?;
     let slope = unsigned(rest, h, k, Kind::SlopeInt)?;
     let threshold = unsigned(rest, h, k, Kind::ThresholdInt)?;
