@@ -111,7 +111,7 @@ fn put_number(out: &mut [u8], at: usize, long: bool, d: u8, z: Distance)
 }
 
 // Puts a number with a fraction of d bits, or where d is above 32 nothing. Either sign has a call of its own: with one for both
-// the sign is worked into each byte, and a row of coefficients takes a sixth more time.
+// the sign is worked into each byte, and a row of coefficients takes some 7 % more time.
 pub fn number(out: &mut [u8], at: usize, long: bool, d: u8, z: Distance)
     ensures { out.new ≡ put_number out.old at long d (from_distance z.below z.far) }
 {
