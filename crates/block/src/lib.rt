@@ -92,20 +92,20 @@ fn sections(bytes: &[u8], t: usize, x: Trailer, h: FittingHeader) -> Result<Plan
 }
 
 // Rule 4: a header that begins at a, named by its first column that does not fit.
-fn wrong_header(head: &[u8], header: Header, a: usize) -> Fault
-    ensures { denied result ≡ refusal 4 a (wrong_column head.now header) }
+fn wrong_header(head: &[u8], header: Header, a: usize) -> Reading
+    ensures { result ≡ refusal 4 a (wrong_column head.now header) }
 {
-    Fault {
+    refused(Fault {
         refusal: Refusal::Header,
         place: a,
         field: wrong_column(head, header),
-    }
+    })
 }
 
 // The header, and then the sections, whose ranges are made of the header's numbers.
-fn body(bytes: &[u8], t: usize, x: Trailer) -> Result<Plan, Fault>
+fn body(bytes: &[u8], t: usize, x: Trailer) -> Reading
     requires { Placed (length bytes.now) t x }
-    ensures { said result ≡ body bytes.now t x }
+    ensures { result ≡ body bytes.now t x }
 {
     let a = t - (x.a as usize);
     let b = t - (x.d0 as usize);
@@ -113,20 +113,28 @@ fn body(bytes: &[u8], t: usize, x: Trailer) -> Result<Plan, Fault>
     let header = read_header(head);
     match FittingHeader::of(header) {
         Some(h) => {
-            if zeros_fit(head) {
-                sections(bytes, t, x, h)
-            } else {
-                Err(wrong_header(head, header, a))
+            if !zeros_fit(head) {
+                return wrong_header(head, header, a);
+            }
+            match sections(bytes, t, x, h) {
+                Ok(plan) => Reading {
+                    number: 0,
+                    place: 0,
+                    field: None,
+                    plan,
+                },
+                Err(fault) => refused(fault),
             }
         }
-        None => Err(wrong_header(head, header, a)),
+        None => wrong_header(head, header, a),
     }
 }
 
-// The trailer, and then what it points to.
+// Reads a composing block: the bytes before its header are ignored.
 #[tactic(auto, using(crate::proofs::Cascade::bad_trailer))]
-fn plan_of(bytes: &[u8]) -> Result<Plan, Fault>
-    ensures { said result ≡ read bytes.now }
+pub fn read(bytes: &[u8]) -> Reading
+    ensures value { result ≡ read bytes.now }
+    ensures sound { Sound result }
 {
     let short = Fault {
         refusal: Refusal::Short,
@@ -134,12 +142,12 @@ fn plan_of(bytes: &[u8]) -> Result<Plan, Fault>
         field: None,
     };
     if bytes.len() < 12 {
-        return Err(short);
+        return refused(short);
     }
     let t = bytes.len() - 12;
     let x = read_trailer(&bytes[t..]);
     if !trailer_fits(x) {
-        return Err(Fault {
+        return refused(Fault {
             refusal: Refusal::Trailer,
             place: t,
             field: None,
@@ -147,25 +155,9 @@ fn plan_of(bytes: &[u8]) -> Result<Plan, Fault>
     }
     // The rest of rule 1 comes after rule 2: only a trailer that passes is believed.
     if t < (x.a as usize) {
-        return Err(short);
+        return refused(short);
     }
     body(bytes, t, x)
-}
-
-// Reads a composing block: the bytes before its header are ignored.
-pub fn read(bytes: &[u8]) -> Reading
-    ensures value { result ≡ read bytes.now }
-    ensures sound { Sound result }
-{
-    match plan_of(bytes) {
-        Ok(plan) => Reading {
-            number: 0,
-            place: 0,
-            field: None,
-            plan,
-        },
-        Err(fault) => refused(fault),
-    }
 }
 
 // Carries a fact of reading, so that the gate names it: bytes before the last A + 12 change nothing.
