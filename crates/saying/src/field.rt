@@ -70,7 +70,11 @@ impl fmt::Display for Indices {
             | Kind::MmrConstantInt
             | Kind::MmrConstant => write!(f, "[{first}][{second}]"),
             Kind::PolyCoefInt | Kind::PolyCoef => write!(f, "[{first}][{second}][{third}]"),
-            Kind::MmrCoefInt | Kind::MmrCoef => write!(f, "[{first}][{second}]{}", MmrIndices(third)),
+            Kind::MmrCoefInt | Kind::MmrCoef => write!(
+                f,
+                "[{first}][{second}]{}",
+                MmrIndices(third)
+            ),
             _ => write!(f, "[{first}]"),
         }
     }
@@ -128,7 +132,10 @@ impl fmt::Display for Value<'_> {
                 bytes: quad,
             }
             .fmt(f),
-            Kind::HdrInMaxInt | Kind::SlopeInt | Kind::ThresholdInt => write!(f, "{byte}, allowed 0 to 1"),
+            Kind::HdrInMaxInt | Kind::SlopeInt | Kind::ThresholdInt => write!(
+                f,
+                "{byte}, allowed 0 to 1"
+            ),
             _ => {
                 let fractions = power(one(self.head, 2));
                 write!(f, "{quad}, allowed less than {fractions}")
