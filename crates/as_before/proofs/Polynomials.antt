@@ -14,6 +14,7 @@ use Rattle.plan.specs.declared.Piece.{Piece}
 use Rattle.plan.specs.Ranges.{count_fits, idc_fits}
 use Rattle.plan.specs.Rule7.{pivot_places, piece_places, row_places, pivots_used, no_piece, zero_piece}
 use Rattle.plan.specs.Versions.{pieces_carried, pieces_read}
+use Rattle.fields.specs.declared.kinds.Kind.TheVariants.{LeftOver, MappingIdc, NumPivotsMinus2, PolyOrderMinus1}
 use Rattle.fields.specs.declared.Ask.{Ask}
 use Rattle.fields.specs.declared.Width.TheVariants.{One}
 use Rattle.refusals.specs.Refusals.{number_of}
@@ -111,7 +112,7 @@ padded_again {A} (suc n) (suc m) z [] h = ap (λ (r : List A). z ∷ r) (padded_
 padded_again {A} (suc n) (suc m) z (x ∷ l) h = ap (λ (r : List A). x ∷ r) (padded_again n m z l (le_of_suc-le-suc h))
 
 -- ---- a section
-idc_now : (k p : ℕ) (bytes : List ℕ) → Now (λ v. v) (idc_before_r3 k p bytes) (ranged (asked 3 k p 0 One) (idc_fits k) bytes)
+idc_now : (k p : ℕ) (bytes : List ℕ) → Now (λ v. v) (idc_before_r3 k p bytes) (ranged (asked MappingIdc k p 0 One) (idc_fits k) bytes)
 unfolding field
 idc_now k p bytes = go (ltb (length bytes) 1) (eqb v 0) (eqb v 1) (eqb k 0) refl refl
   where
@@ -119,7 +120,7 @@ idc_now k p bytes = go (ltb (length bytes) 1) (eqb v 0) (eqb v 1) (eqb k 0) refl
     v = number (take 1 bytes)
 
     go : (s z o t : Bool) → let v = number (take 1 bytes) in eqb v 0 ≡ z → eqb v 1 ≡ o
-        → let name = (asked 3 k p 0 One).name in
+        → let name = (asked MappingIdc k p 0 One).name in
         Now (λ v. v) (cond s (refused 3 name bytes) (cond z (got v (drop 1 bytes)) (refused (cond o (cond t 5 6) 5) name bytes)))
         (cond s (refused 3 name bytes) (cond (leb v (cond t 0 1)) (got v (drop 1 bytes)) (refused 5 name bytes)))
     go true z o t e f six = refl
@@ -145,9 +146,9 @@ module _ (h : Header) (k : ℕ) where
   piece_now : (p : ℕ) (bytes : List ℕ) → Now longer_row (piece_before_r3 h k p bytes) (piece h k p bytes)
   unfolding piece piece_before_r3
   piece_now p bytes =
-      then_now (λ v. v) longer_row (λ v. eqb v 0 ≡ true) _ _ (idc_before_r3 k p bytes) (ranged (asked 3 k p 0 One) (idc_fits k) bytes) (field-has _ _ _ bytes) (idc_now k p bytes)
+      then_now (λ v. v) longer_row (λ v. eqb v 0 ≡ true) _ _ (idc_before_r3 k p bytes) (ranged (asked MappingIdc k p 0 One) (idc_fits k) bytes) (field-has _ _ _ bytes) (idc_now k p bytes)
       (λ m a rest. rw (eqb-true m 0 a)
-      (then_now (λ v. v) longer_row (λ v. leb v 1 ≡ true) _ _ (ranged (asked 4 k p 0 One) (λ v. leb v 1) rest) (ranged (asked 4 k p 0 One) (λ v. leb v 1) rest) (field-has _ _ _ rest) (as_read _)
+      (then_now (λ v. v) longer_row (λ v. leb v 1 ≡ true) _ _ (ranged (asked PolyOrderMinus1 k p 0 One) (λ v. leb v 1) rest) (ranged (asked PolyOrderMinus1 k p 0 One) (λ v. leb v 1) rest) (field-has _ _ _ rest) (as_read _)
       (λ o b rest. then_now (λ l. l) longer_row (λ l. length l ≡ o + 2) _ _ (repeated 0 (o + 2) (coefficient_before_r3 h k p) rest) (repeated 0 (o + 2) (coefficient h k p 0) rest) (repeated_has _ 0 (o + 2) rest) (same_coefficients p (o + 2) rest)
       (λ row e rest six. ap (λ (r : List ℤ). got (record { idc = 0; order = o; row = r }) rest) (sym (padded_again row_places 3 (pos 0) row (omega (arith, e, leb-true o 1 b))))))))
 
@@ -170,13 +171,13 @@ module _ (h : Header) (k : ℕ) where
   section_now : (version : ℕ) (bytes : List ℕ) → Now longer_rows (section_before_r3 version h k bytes) (section version h k bytes)
   unfolding section section_before_r3
   section_now version bytes =
-      same_now longer_rows _ _ (ranged (asked 1 k 0 0 One) count_fits bytes) (λ n rest.
+      same_now longer_rows _ _ (ranged (asked NumPivotsMinus2 k 0 0 One) count_fits bytes) (λ n rest.
       same_now longer_rows _ _ (repeated 0 (pivots_used n) (pivot h k) rest) (λ pivots rest.
       then_now (map longer_row) longer_rows (λ l. length l ≡ pieces_carried version n) _ _ (repeated 0 (pieces_carried version n) (piece_before_r3 h k) rest) (repeated 0 (pieces_carried version n) (piece h k) rest)
       (repeated_has _ 0 (pieces_carried version n) rest) (repeated_now longer_row (piece_before_r3 h k) (piece h k) piece_now 0 (pieces_carried version n) rest) (λ pieces e rest.
       same_now longer_rows _ _ (nlq h k rest) (λ q rest six.
-      ap (λ (l : List Piece). ended (asked 14 k 0 0 One).name 3 (record { n = n; preds = padded pivot_places 0 pivots; pieces = l; nlq = q }) rest) (places_now version n pieces e)
-      ∙ at_end (asked 14 k 0 0 One).name 3 _ longer_rows rest))))
+      ap (λ (l : List Piece). ended (asked LeftOver k 0 0 One).name 3 (record { n = n; preds = padded pivot_places 0 pivots; pieces = l; nlq = q }) rest) (places_now version n pieces e)
+      ∙ at_end (asked LeftOver k 0 0 One).name 3 _ longer_rows rest))))
 
 pub polynomials_as_before : PolynomialsAsBefore
 polynomials_as_before = record { sections = λ version h k bytes. section_now h k version bytes }

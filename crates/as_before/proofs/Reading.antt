@@ -11,6 +11,7 @@ use Rattle.plan.specs.declared.Header.{Header}
 use Rattle.plan.specs.declared.Piece.{Piece}
 use Rattle.plan.specs.Ranges.{most_n, count_fits}
 use Rattle.plan.specs.Rule7.{piece_places, pivot_places, pivots_used, no_piece, zero_piece, piece_fits}
+use Rattle.fields.specs.declared.kinds.Kind.TheVariants.{LeftOver, NumPivotsMinus2}
 use Rattle.fields.specs.declared.Name.{Name}
 use Rattle.fields.specs.declared.Width.TheVariants.{One}
 use Rattle.fields.specs.Fields.{Read, refused, got, ◌then◌, repeated, padded, ended}
@@ -51,12 +52,12 @@ emptied {A} (suc m) z a (x ∷ l) h = ap (λ (r : List A). x ∷ r) (emptied m z
 pub same_section : (h : Header) (k : ℕ) (bytes : List ℕ) → section_before_r2 h k bytes ≡ (section 1 h k bytes then λ c rest. got (without_last c) rest)
 unfolding section section_before_r2
 same_section h k bytes =
-    on_given (ranged (asked 1 k 0 0 One) count_fits bytes) _ _ (λ n. count_fits n ≡ true) (field_gives (asked 1 k 0 0 One) count_fits (λ v. 5) (λ v z. omega arith) bytes) (λ n few rest.
+    on_given (ranged (asked NumPivotsMinus2 k 0 0 One) count_fits bytes) _ _ (λ n. count_fits n ≡ true) (field_gives (asked NumPivotsMinus2 k 0 0 One) count_fits (λ v. 5) (λ v z. omega arith) bytes) (λ n few rest.
     on (repeated 0 (pivots_used n) (pivot h k) rest) _ _ (λ pivots rest.
     on_given (repeated 0 (n + 1) (piece h k) rest) _ _ (λ l. (length l ≡ n + 1) × Each (λ q. piece_fits k h q ≡ true) l) (repeated_gives _ 0 (n + 1) (piece h k) (piece_gives h k) rest) (λ pieces long rest.
     on (nlq h k rest) _ _ (λ q rest.
-    ap (λ (l : List Piece). ended (asked 14 k 0 0 One).name 3 (record { n = n; preds = padded pivot_places 0 pivots; pieces = l; nlq = q }) rest) (without n few pieces long.0)
-    ∙ at_end (asked 14 k 0 0 One).name 3 _ without_last rest))))
+    ap (λ (l : List Piece). ended (asked LeftOver k 0 0 One).name 3 (record { n = n; preds = padded pivot_places 0 pivots; pieces = l; nlq = q }) rest) (without n few pieces long.0)
+    ∙ at_end (asked LeftOver k 0 0 One).name 3 _ without_last rest))))
   where
     without : (n : ℕ) → count_fits n ≡ true → (l : List Piece) → length l ≡ n + 1 → padded piece_places zero_piece l ≡ set (padded piece_places zero_piece (l ++ (get_or l n no_piece ∷ []))) (n + 1) zero_piece
     without n few l long = rw (← long) (sym (emptied piece_places zero_piece (get_or l n no_piece) l (omega (arith, long, leb-true n most_n few))))

@@ -10,6 +10,7 @@ use Rattle.plan.specs.declared.Plan.{Plan}
 use Rattle.plan.specs.Parameters.{mapping}
 use Rattle.plan.specs.Ranges.{bl_depth, count_fits}
 use Rattle.plan.specs.Rule7.{pivot_places, piece_places, pivots_used, zero_piece}
+use Rattle.fields.specs.declared.kinds.Kind.TheVariants.{LeftOver, NumPivotsMinus2}
 use Rattle.fields.specs.declared.Width.TheVariants.{One}
 use Rattle.fields.specs.Fields.{Read, got, ◌then◌, repeated, padded, ended}
 use Rattle.section_fields.specs.Fields.{asked, ranged}
@@ -36,11 +37,11 @@ chroma_before_r2 depth d y cb cr m s s0 s1 s2 =
 -- a section before R-2: n + 1 pieces, and 0 in every place after them
 unfoldable pub section_before_r2 : Header → ℕ → List ℕ → Read Component
 section_before_r2 h k bytes =
-    ranged (asked 1 k 0 0 One) count_fits bytes then λ n rest.
+    ranged (asked NumPivotsMinus2 k 0 0 One) count_fits bytes then λ n rest.
     repeated 0 (pivots_used n) (pivot h k) rest then λ pivots rest.
     repeated 0 (n + 1) (piece h k) rest then λ pieces rest.
     nlq h k rest then λ q rest.
-    ended (asked 14 k 0 0 One).name 3 (record { n = n; preds = padded pivot_places 0 pivots; pieces = padded piece_places zero_piece pieces; nlq = q }) rest
+    ended (asked LeftOver k 0 0 One).name 3 (record { n = n; preds = padded pivot_places 0 pivots; pieces = padded piece_places zero_piece pieces; nlq = q }) rest
 
 -- a component as it was held before: without piece n + 1
 abbrev pub without_last : Component → Component

@@ -2,6 +2,7 @@
 use mathlib.Core.Path.{◌≡◌, refl}
 use mathlib.Core.Bool.{Bool, true, false, cond, not, ◌&&◌}
 use mathlib.Core.List.{List}
+use Rattle.std.specs.Prelude.{Option, Some}
 use Prim.Native.Nat.{ℕ, ◌+◌, ◌-◌, ◌≤◌}
 use native.Mathlib.Omega.{arith}
 use lib.Dec.{ltb}
@@ -34,7 +35,7 @@ part_length bytes a b h =
 -- a section, by what its reader answered
 module _ (a : ℕ) (s : List ℕ) (version : ℕ) (h : Header) (k : ℕ) (next : Component → Reading) where
   -- a failure is the answer
-  pub stop : {i p : ℕ} {name : Name} {rest : List ℕ} → p ≡ a + (length s - length rest) → refused i name rest ≡ section version h k s → refusal i p name ≡ met a s (section version h k s) next
+  pub stop : {i p : ℕ} {name : Name} {rest : List ℕ} → p ≡ a + (length s - length rest) → refused i name rest ≡ section version h k s → refusal i p (Some name) ≡ met a s (section version h k s) next
   unfolding met
   stop e r = rw (e, ← r)
 
@@ -56,7 +57,7 @@ module _ (version : ℕ) where
   either true p q = p
   either false p q = q refl
 
-  refusing : (k place : ℕ) (name : Name) → (k ≡ 0 → ⊥) → Kept version (refusal k place name)
+  refusing : (k place : ℕ) (name : Option Name) → (k ≡ 0 → ⊥) → Kept version (refusal k place name)
   refusing k place name f = record { sound = record { passes = λ e. absurd (f e); empty = λ _. refl }; twice = λ e. absurd (f e) }
 
   module _ (bytes : List ℕ) (h : Header) where
@@ -65,7 +66,7 @@ module _ (version : ℕ) where
     with_section-kept k a b next f = by (section version h k (part bytes a b)) (section_gives h k version (part bytes a b))
       where
         by : (r : Read Component) → Gives (Fits h k version) r → Kept version (met a (part bytes a b) r next)
-        by (refused n name rest) some = refusing n _ name some
+        by (refused n name rest) some = refusing n _ (Some name) some
         by (got c rest) fits = f c fits
 
 sections-kept : (bytes : List ℕ) (h : Header) (t : ℕ) (x : Trailer) → header_fits h ≡ true → Kept x.version (sections bytes t x h)

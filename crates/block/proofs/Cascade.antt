@@ -5,12 +5,11 @@ use mathlib.Core.List.{List}
 use Prim.Native.Nat.{ℕ, ◌+◌, ◌-◌, ◌≤◌, ◌<◌}
 use lib.ListN.{length}
 use borrow.Author.Tests.{eqb-true, ltb-true, lt-ltb, le-ltb}
-use Rattle.std.specs.Prelude.{Result, IsErr, IsErrAnd}
+use Rattle.std.specs.Prelude.{None, Result, IsErr, IsErrAnd}
 use Rattle.std.proofs.lemmas.Result.{err_from_is_err_and}
 use Rattle.plan.specs.declared.Plan.{Plan}
 use Rattle.plan.specs.Ranges.{header_fits}
 use Rattle.plan.proofs.Truths.{each}
-use Rattle.fields.specs.Fields.{no_name}
 use Rattle.frame.specs.declared.Trailer.{Trailer}
 use Rattle.frame.specs.Frame.{trailer, trailer_fits, trailer_tests, header, zeros_fit, wrong_column}
 use Rattle.block.specs.Reading.{tail, part, refusal, sections, body, read}
@@ -19,17 +18,17 @@ use Rattle.block.specs.inner.Placed.{Placed}
 use Rattle.block.specs.inner.Answering.{said, denied}
 
 module _ (bytes : List ℕ) where
-  pub too_short : length bytes < 12 → refusal 1 0 no_name ≡ read bytes
+  pub too_short : length bytes < 12 → refusal 1 0 None ≡ read bytes
   unfolding read
   too_short h = rw (lt-ltb _ _ h)
 
   module _ (h : 12 ≤ length bytes) where
-    pub bad_trailer : trailer_fits (trailer (tail bytes)) ≡ false → refusal 2 (length bytes - 12) no_name ≡ read bytes
+    pub bad_trailer : trailer_fits (trailer (tail bytes)) ≡ false → refusal 2 (length bytes - 12) None ≡ read bytes
     unfolding read
     bad_trailer e = rw (le-ltb _ _ h, e)
 
     module _ (e : trailer_fits (trailer (tail bytes)) ≡ true) where
-      pub cut_off : length bytes - 12 < (trailer (tail bytes)).a → refusal 1 0 no_name ≡ read bytes
+      pub cut_off : length bytes - 12 < (trailer (tail bytes)).a → refusal 1 0 None ≡ read bytes
       unfolding read
       cut_off l = rw (le-ltb _ _ h, e, lt-ltb _ _ l)
 

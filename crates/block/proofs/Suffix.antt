@@ -3,6 +3,7 @@
 use mathlib.Core.Path.{◌≡◌, refl, sym, ap, ap₂, ◌∙◌}
 use mathlib.Core.Bool.{Bool, true, false, cond, not, ◌&&◌}
 use mathlib.Core.List.{List, ◌++◌}
+use Rattle.std.specs.Prelude.{Option, None}
 use Prim.Native.Nat.{ℕ, ◌+◌, ◌-◌, ◌≤◌}
 use native.Mathlib.Omega.{arith}
 use lib.ListN.{length, length-append}
@@ -12,7 +13,7 @@ use Rattle.plan.specs.declared.Header.{Header}
 use Rattle.plan.specs.declared.Component.{Component}
 use Rattle.plan.specs.Ranges.{header_fits}
 use Rattle.fields.specs.declared.Name.{Name}
-use Rattle.fields.specs.Fields.{Read, refused, got, no_name}
+use Rattle.fields.specs.Fields.{Read, refused, got}
 use Rattle.fields.proofs.Giving.{Gives}
 use Rattle.sections.specs.Sections.{section}
 use Rattle.sections.proofs.Fitting.{Fits, section_gives}
@@ -72,7 +73,7 @@ module _ (p s : List ℕ) where
       let head = part s (t - x.a) (t - x.d0) in
       rw (ea, e0, part_moved (t - x.a) (t - x.d0), sections-moved (header head) t x w) (either (not (header_fits (header head) && zeros_fit head)) (t - x.a) (wrong_column head (header head)) (sections s t x (header head)))
     where
-      either : (q : Bool) (a : ℕ) (name : Name) (r : Reading) → cond q (refusal 4 (n + a) name) (moved n r) ≡ moved n (cond q (refusal 4 a name) r)
+      either : (q : Bool) (a : ℕ) (name : Option Name) (r : Reading) → cond q (refusal 4 (n + a) name) (moved n r) ≡ moved n (cond q (refusal 4 a name) r)
       either true a name r = refl
       either false a name r = refl
 
@@ -93,4 +94,4 @@ module _ (p s : List ℕ) where
       go true e =
           sym (goes_on (p ++ s) long (ap trailer_fits m.1 ∙ e) near) ∙ ap₂ (body (p ++ s)) m.0 m.1
           ∙ body-moved (length s - 12) (trailer (tail s)) (placed (trailer (tail s)) (omega arith) e l) ∙ ap (moved n) (goes_on s h e l)
-      go false e = sym (bad_trailer (p ++ s) long (ap trailer_fits m.1 ∙ e)) ∙ ap (λ (k : ℕ). refusal 2 k no_name) m.0 ∙ ap (moved n) (bad_trailer s h e)
+      go false e = sym (bad_trailer (p ++ s) long (ap trailer_fits m.1 ∙ e)) ∙ ap (λ (k : ℕ). refusal 2 k None) m.0 ∙ ap (moved n) (bad_trailer s h e)

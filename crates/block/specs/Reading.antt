@@ -1,11 +1,11 @@
 -- Reading a composing block: the house rules' trailer, header and sections, its table of refusals and their order.
-use Rattle.std.specs.Prelude.{cond, not, ◌&&◌, List, ℕ, ◌+◌, ◌-◌, ltb, length, take, drop}
+use Rattle.std.specs.Prelude.{cond, not, ◌&&◌, List, ℕ, ◌+◌, ◌-◌, ltb, length, take, drop, Option, None, Some}
 use Rattle.plan.specs.declared.Header.{Header}
 use Rattle.plan.specs.declared.Component.{Component}
 use Rattle.plan.specs.Ranges.{header_fits}
 use Rattle.plan.specs.Rule7.{no_plan}
 use Rattle.fields.specs.declared.Name.{Name}
-use Rattle.fields.specs.Fields.{Read, refused, got, no_name}
+use Rattle.fields.specs.Fields.{Read, refused, got}
 use Rattle.frame.specs.declared.Trailer.{Trailer}
 use Rattle.frame.specs.Frame.{trailer, trailer_fits, header, zeros_fit, wrong_column}
 use Rattle.sections.specs.Sections.{section}
@@ -20,12 +20,12 @@ abbrev pub tail : List ℕ → List ℕ
 tail bytes = part bytes (length bytes - 12) (length bytes)
 
 -- a refused block gives the number, where the failure was met and in which field, and a plan of zeros
-abbrev pub refusal : ℕ → ℕ → Name → Reading
+abbrev pub refusal : ℕ → ℕ → Option Name → Reading
 refusal k place name = record { number = k; place = place; field = name; plan = no_plan }
 
 -- a section s that begins at byte a: its failure is the answer, at the byte where it was met, or else what follows
 unfoldable pub met : ℕ → List ℕ → Read Component → (Component → Reading) → Reading
-met a s (refused k name rest) next = refusal k (a + (length s - length rest)) name
+met a s (refused k name rest) next = refusal k (a + (length s - length rest)) (Some name)
 met a s (got c rest) next = next c
 
 -- section k of a version, the bytes from a up to b
@@ -38,7 +38,7 @@ sections bytes t x h =
     with_section bytes x.version h 0 (t - x.d0) (t - x.d1) (λ y.
     with_section bytes x.version h 1 (t - x.d1) (t - x.d2) (λ cb.
     with_section bytes x.version h 2 (t - x.d2) t (λ cr.
-    record { number = 0; place = 0; field = no_name; plan = record { header = h; y = y; cb = cb; cr = cr } })))
+    record { number = 0; place = 0; field = None; plan = record { header = h; y = y; cb = cb; cr = cr } })))
 
 -- the header (4), and then the sections
 unfoldable pub body : List ℕ → ℕ → Trailer → Reading
@@ -52,7 +52,7 @@ unfoldable pub read : List ℕ → Reading
 read bytes =
     let t = length bytes - 12 in
     let x = trailer (tail bytes) in
-    cond (ltb (length bytes) 12) (refusal 1 0 no_name)
-    (cond (not (trailer_fits x)) (refusal 2 t no_name)
-    (cond (ltb t x.a) (refusal 1 0 no_name)
+    cond (ltb (length bytes) 12) (refusal 1 0 None)
+    (cond (not (trailer_fits x)) (refusal 2 t None)
+    (cond (ltb t x.a) (refusal 1 0 None)
     (body bytes t x)))

@@ -8,21 +8,22 @@ ghost use Rattle.block.specs.Facts.{Sound, LastBytes};
 ghost use Rattle.block.specs.inner.Placed.{Placed};
 ghost use Rattle.block.specs.inner.Answering.{Answers, said, denied};
 
-use fields::{Name, nameless};
+use fields::Name;
 use frame::columns::wrong_column;
 use frame::{Trailer, read_header, read_trailer, trailer_fits, zeros_fit};
+use plan::ranges::FittingHeader;
 use plan::{Component, Header, Plan};
 use refusals::Refusal;
-use sections::{FittingHeader, read_section};
+use sections::read_section;
 
-// What reading comes to: 0 and the plan, or the refusal's number, the byte and the field where the failure was met, and a plan
-// of zeros. Rules 1 and 2 name no field. It is no Result: a refused block gives a plan of zeros (`Sound`), which rule 7 refuses, so
-// that a caller who does not ask for the number composes nothing.
+// What reading comes to: 0 and the plan, or the refusal's number, the byte and the field where the failure was met, and
+// a plan of zeros. Rules 1 and 2 name no field. It is no Result: a refused block gives a plan of zeros (`Sound`), which
+// rule 7 refuses, so that a caller who does not ask for the number composes nothing.
 #[derive(Clone, Copy)]
 pub struct Reading {
     pub number: u8,
     pub place: usize,
-    pub field: Name,
+    pub field: Option<Name>,
     pub plan: Plan,
 }
 
@@ -31,7 +32,7 @@ pub struct Reading {
 struct Fault {
     refusal: Refusal,
     place: usize,
-    field: Name,
+    field: Option<Name>,
 }
 
 // A refused block hands back nothing of what was read.
@@ -47,7 +48,8 @@ fn refused(fault: Fault) -> Reading
     }
 }
 
-// Section k of a version, the bytes from a up to b. It is a part of the slice, so that its fields cannot run into the next one's.
+// Section k of a version, the bytes from a up to b. It is a part of the slice, so that its fields cannot run into the
+// next one's. The place of a failure is the definition's, whose subtraction ends at 0.
 fn part(
     bytes: &[u8],
     a: usize,
@@ -65,7 +67,7 @@ fn part(
         Err(failure) => Err(Fault {
             refusal: failure.refusal,
             place: a + (b - a).saturating_sub(rest.len()),
-            field: failure.name,
+            field: Some(failure.name),
         }),
     }
 }
@@ -90,80 +92,72 @@ fn sections(bytes: &[u8], t: usize, x: Trailer, h: FittingHeader) -> Result<Plan
 }
 
 // Rule 4: a header that begins at a, named by its first column that does not fit.
-fn wrong_header(head: &[u8], header: Header, a: usize) -> Fault
-    ensures { denied result ≡ refusal 4 a (wrong_column head.now header) }
+fn wrong_header(head: &[u8], header: Header, a: usize) -> Reading
+    ensures { result ≡ refusal 4 a (wrong_column head.now header) }
 {
-    Fault {
+    refused(Fault {
         refusal: Refusal::Header,
         place: a,
         field: wrong_column(head, header),
-    }
+    })
 }
 
 // The header, and then the sections, whose ranges are made of the header's numbers.
-fn body(bytes: &[u8], t: usize, x: Trailer) -> Result<Plan, Fault>
+fn body(bytes: &[u8], t: usize, x: Trailer) -> Reading
     requires { Placed (length bytes.now) t x }
-    ensures { said result ≡ body bytes.now t x }
+    ensures { result ≡ body bytes.now t x }
 {
     let a = t - (x.a as usize);
     let b = t - (x.d0 as usize);
     let head = &bytes[a..b];
     let header = read_header(head);
-    match FittingHeader::new(header) {
+    match FittingHeader::of(header) {
         Some(h) => {
-            if zeros_fit(head) {
-                sections(bytes, t, x, h)
-            } else {
-                Err(wrong_header(head, header, a))
+            if !zeros_fit(head) {
+                return wrong_header(head, header, a);
+            }
+            match sections(bytes, t, x, h) {
+                Ok(plan) => Reading {
+                    number: 0,
+                    place: 0,
+                    field: None,
+                    plan,
+                },
+                Err(fault) => refused(fault),
             }
         }
-        None => Err(wrong_header(head, header, a)),
+        None => wrong_header(head, header, a),
     }
-}
-
-// The trailer, and then what it points to.
-#[tactic(auto, using(crate::proofs::Cascade::bad_trailer))]
-fn plan_of(bytes: &[u8]) -> Result<Plan, Fault>
-    ensures { said result ≡ read bytes.now }
-{
-    let short = Fault {
-        refusal: Refusal::Short,
-        place: 0,
-        field: nameless(),
-    };
-    if bytes.len() < 12 {
-        return Err(short);
-    }
-    let t = bytes.len() - 12;
-    let x = read_trailer(&bytes[t..]);
-    if !trailer_fits(x) {
-        return Err(Fault {
-            refusal: Refusal::Trailer,
-            place: t,
-            field: nameless(),
-        });
-    }
-    // The rest of rule 1 comes after rule 2: only a trailer that passes is believed.
-    if t < (x.a as usize) {
-        return Err(short);
-    }
-    body(bytes, t, x)
 }
 
 // Reads a composing block: the bytes before its header are ignored.
+#[tactic(auto, using(crate::proofs::Cascade::bad_trailer))]
 pub fn read(bytes: &[u8]) -> Reading
     ensures value { result ≡ read bytes.now }
     ensures sound { Sound result }
 {
-    match plan_of(bytes) {
-        Ok(plan) => Reading {
-            number: 0,
-            place: 0,
-            field: nameless(),
-            plan,
-        },
-        Err(fault) => refused(fault),
+    let short = Fault {
+        refusal: Refusal::Short,
+        place: 0,
+        field: None,
+    };
+    if bytes.len() < 12 {
+        return refused(short);
     }
+    let t = bytes.len() - 12;
+    let x = read_trailer(&bytes[t..]);
+    if !trailer_fits(x) {
+        return refused(Fault {
+            refusal: Refusal::Trailer,
+            place: t,
+            field: None,
+        });
+    }
+    // The rest of rule 1 comes after rule 2: only a trailer that passes is believed.
+    if t < (x.a as usize) {
+        return refused(short);
+    }
+    body(bytes, t, x)
 }
 
 // Carries a fact of reading, so that the gate names it: bytes before the last A + 12 change nothing.

@@ -115,6 +115,7 @@ leaves_settled =
       bl_depth = λ κs a r r' s s' p q. p.0 ∙ sym q.0;
       el_depth = λ κs a r r' s s' p q. p.0 ∙ sym q.0;
       hdr_depth = λ κs a r r' s s' p q. p.0 ∙ sym q.0;
+      fraction_bits = λ κs a r r' s s' p q. p.0 ∙ sym q.0;
       most_idc = λ κs a r r' s s' p q. p ∙ sym q;
       most_order = λ κs a r r' s s' p q. p ∙ sym q;
       coefficients_used = λ κs a r r' s s' p q. p.0 ∙ sym q.0;

@@ -79,3 +79,4 @@ pub mod method_of
 pub mod bl_depth
 pub mod el_depth
 pub mod hdr_depth
+pub mod fraction_bits

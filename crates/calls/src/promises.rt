@@ -31,6 +31,7 @@ ghost use Rattle.calls.specs.promises.method_of.{Keeps as method_of_keeps};
 ghost use Rattle.calls.specs.promises.bl_depth.{Keeps as bl_depth_keeps};
 ghost use Rattle.calls.specs.promises.el_depth.{Keeps as el_depth_keeps};
 ghost use Rattle.calls.specs.promises.hdr_depth.{Keeps as hdr_depth_keeps};
+ghost use Rattle.calls.specs.promises.fraction_bits.{Keeps as fraction_bits_keeps};
 ghost use Rattle.calls.specs.promises.most_idc.{Keeps as most_idc_keeps};
 ghost use Rattle.calls.specs.promises.most_order.{Keeps as most_order_keeps};
 ghost use Rattle.calls.specs.promises.header_fits.{Keeps as header_fits_keeps};
@@ -322,6 +323,12 @@ pub fn hdr_depth(h: plan::ranges::FittingHeader) -> u32
     ensures { hdr_depth_keeps h result }
 {
     h.hdr_depth()
+}
+
+pub fn fraction_bits(h: plan::ranges::FittingHeader) -> u32
+    ensures { fraction_bits_keeps h result }
+{
+    h.fraction_bits()
 }
 
 pub fn most_idc(k: usize) -> u8

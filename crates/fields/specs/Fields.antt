@@ -34,9 +34,6 @@ wide One = 1
 wide Two = 2
 wide Four = 4
 
-abbrev pub no_name : Name
-no_name = record { kind = 0; first = 0; second = 0; third = 0 }
-
 -- a field: it runs past the bytes, or its value does not fit, and then the value says by which rule
 unfoldable pub field : Ask → (ℕ → Bool) → (ℕ → ℕ) → List ℕ → Read ℕ
 field a fits rule bytes =

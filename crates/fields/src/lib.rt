@@ -1,21 +1,23 @@
-// Fields of bytes, read from first byte to last. A reader is lent what is left of the bytes. It answers a value and moves on past it,
-// or it answers which field failed and by which rule, and what is left then begins with that field.
+// Fields of bytes, read from first byte to last. A reader is lent what is left of the bytes. It answers a value and
+// moves on past it, or it answers which field failed and by which rule, and what is left then begins with that field.
 #![tactic(auto)]
 
+pub mod kinds; // the kinds of fields
 pub mod numbers; // big-endian numbers that stand at a place
 
 ghost use Rattle.std.specs.Prelude.{true, ◌≡◌, ◌<◌, ◌≤◌, leb, ltb, IfOk};
 ghost use Rattle.refusals.specs.Refusals.{number_of};
-ghost use Rattle.fields.specs.Fields.{no_name, field, ended};
+ghost use Rattle.fields.specs.Fields.{field, ended};
 ghost use Rattle.fields.specs.inner.Readers.{as_read};
 
+use kinds::Kind;
 use numbers::{number, width_of};
 use refusals::Refusal;
 
-// Which field: a kind, by the numbers of the crate that reads it, and as many indices as it has.
+// Which field: a kind, and as many indices as it has.
 #[derive(Clone, Copy)]
 pub struct Name {
-    pub kind: u8,
+    pub kind: Kind,
     pub first: usize,
     pub second: usize,
     pub third: usize,
@@ -43,18 +45,6 @@ pub struct Failure {
     pub name: Name,
 }
 
-// The name of no field.
-pub fn nameless() -> Name
-    ensures { result ≡ no_name }
-{
-    Name {
-        kind: 0,
-        first: 0,
-        second: 0,
-        third: 0,
-    }
-}
-
 // A field, whatever it holds.
 pub fn raw(rest: &mut &[u8], a: Ask) -> Result<u64, Failure>
     ensures { as_read result rest.new.now ≡ field a (λ v. true) (λ v. 0) rest.old.now }
@@ -71,7 +61,8 @@ pub fn raw(rest: &mut &[u8], a: Ask) -> Result<u64, Failure>
     Ok(number(bytes))
 }
 
-// A field that is below a limit.
+// A field that is below a limit. This and `at_most` are not one function that is handed the test: the call of a closure
+// needs a `requires`, and what crosses a crate has none.
 pub fn below(rest: &mut &[u8], a: Ask, limit: u64, refusal: Refusal) -> Result<u64, Failure>
     ensures value { as_read result rest.new.now ≡ field a (λ v. ltb v limit) (λ v. number_of refusal) rest.old.now }
     ensures small { IfOk result (λ v. v < limit) }

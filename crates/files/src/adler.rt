@@ -1,6 +1,4 @@
 // The Adler-32 of a file (RFC 1950), which zlib and many tools give.
-ghost use Rattle.std.specs.Prelude.{◌<◌};
-
 use crate::{PART, read_full};
 use std::fs::File;
 

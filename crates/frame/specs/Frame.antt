@@ -1,9 +1,11 @@
 -- The trailer and the header of a composing block, by the house rules' tables.
-use Rattle.std.specs.Prelude.{Bool, cond, List, [], ◌∷◌, ℕ, ◌+◌, ltb, eqb, take, drop}
+use Rattle.std.specs.Prelude.{Bool, cond, List, [], ◌∷◌, ◌++◌, ℕ, ◌+◌, ltb, eqb, take, drop, Option, None, Some}
 use Rattle.plan.specs.declared.Header.{Header}
 use Rattle.plan.specs.Ranges.{all, format_tests, size_tests}
 use Rattle.plan.specs.Versions.{known_version}
 use Rattle.fields.specs.declared.Name.{Name}
+use Rattle.fields.specs.declared.kinds.Kind.{Kind}
+use Rattle.fields.specs.declared.kinds.Kind.TheVariants.{Profile, Level, BlDepth, ElDepth, Depths, Denominator, HdrDepth, Disabled, Zero7, Columns, Pairs, Brightest, Zero14, Darkest, Zero20}
 use Rattle.fields.specs.Fields.{number_at}
 use Rattle.frame.specs.declared.Trailer.{Trailer}
 
@@ -41,16 +43,26 @@ header bytes =
 unfoldable pub zeros_fit : List ℕ → Bool
 zeros_fit bytes = all (eqb (number_at bytes 7 1) 0 ∷ eqb (number_at bytes 14 2) 0 ∷ eqb (number_at bytes 20 4) 0 ∷ [])
 
--- the kind of the first column of a table that does not fit, by counting from k on; else what the columns after it come to
-abbrev pub first_wrong : ℕ → List Bool → ℕ → ℕ
-first_wrong k [] rest = rest
-first_wrong k (t ∷ ts) rest = cond t (first_wrong (k + 1) ts rest) k
+-- a header's columns: those of its bytes 0 to 6, the depths before d, which is made of them, and among them that they are the same; and
+-- those of its bytes 7 to 23
+abbrev pub columns : List Kind
+columns =
+    Profile ∷ Level ∷ BlDepth ∷ ElDepth ∷ Depths ∷ Denominator ∷ HdrDepth ∷ Disabled
+    ∷ Zero7 ∷ Columns ∷ Pairs ∷ Brightest ∷ Zero14 ∷ Darkest ∷ Zero20 ∷ []
 
--- the column that a refused header is named by: kinds 15 to 22 are its bytes 0 to 6 (the depths, of which 19 is that they differ, before d),
--- 23 to 29 its bytes 7 to 23
-unfoldable pub wrong_column : List ℕ → Header → Name
+-- the first column of a table that does not fit, by its tests; else what the columns after it come to
+abbrev pub first_wrong : List Kind → List Bool → Option Kind → Option Kind
+first_wrong [] ts rest = rest
+first_wrong (k ∷ ks) [] rest = rest
+first_wrong (k ∷ ks) (t ∷ ts) rest = cond t (first_wrong ks ts rest) (Some k)
+
+abbrev pub named : Option Kind → Option Name
+named None = None
+named (Some k) = Some (record { kind = k; first = 0; second = 0; third = 0 })
+
+-- the column that a refused header is named by
+unfoldable pub wrong_column : List ℕ → Header → Option Name
 wrong_column head h =
-    let last = first_wrong 29 (eqb (number_at head 20 4) 0 ∷ []) 0 in
-    let luminance = first_wrong 27 (eqb (number_at head 14 2) 0 ∷ drop 3 (size_tests h)) last in
-    let size = first_wrong 23 (eqb (number_at head 7 1) 0 ∷ take 3 (size_tests h)) luminance in
-    record { kind = first_wrong 15 (format_tests h) size; first = 0; second = 0; third = 0 }
+    let size = eqb (number_at head 7 1) 0 ∷ take 3 (size_tests h) in
+    let luminance = eqb (number_at head 14 2) 0 ∷ drop 3 (size_tests h) in
+    named (first_wrong columns (format_tests h ++ size ++ luminance ++ eqb (number_at head 20 4) 0 ∷ []) None)

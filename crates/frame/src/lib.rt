@@ -2,7 +2,6 @@
 #![tactic(auto)]
 
 pub mod columns; // which column of a refused header is named
-pub mod kinds; // the kinds of the header's columns
 
 ghost use Rattle.std.specs.Prelude.{◌≡◌};
 ghost use Rattle.frame.specs.Frame.{trailer, trailer_fits, header, zeros_fit};

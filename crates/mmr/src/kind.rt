@@ -7,8 +7,8 @@ pub(crate) enum Width {
     Wide,
 }
 
-// What a broken piece, whose numbers are beyond their ranges, maps to is 0. An MMR piece has its width in a field of its own: of four
-// kinds in one number the compiler makes a table of jumps, which processors guess worse than comparisons.
+// A broken piece has numbers beyond their ranges, and maps to 0. An MMR piece has its width in a field of its own: of
+// four kinds in one number the compiler makes a table of jumps, which processors guess worse than comparisons.
 #[derive(Clone, Copy)]
 pub(crate) enum Kind {
     Polynomial,

@@ -97,5 +97,7 @@ pub fn compose_chroma(plan: Plan, first: usize, last: usize, inputs: &Inputs, ou
         return;
     }
     let both = both_of(&plan);
-    compose_rows(&both, inputs, extent_of(h).planes(), first, last, output);
+    // copied, so that the compiler sees that no store to the output changes it
+    let inputs = *inputs;
+    compose_rows(&both, &inputs, extent_of(h).planes(), first, last, output);
 }

@@ -13,8 +13,8 @@ fn row_of(run: &[u16], left: usize, middle: usize) -> u32
     (a + 2 * b + c + 2) >> 2
 }
 
-// The luma sample of chroma column i between two rows of w samples, of which the upper begins at an index of the run. Where
-// there is no column before it the first stands for that one.
+// The luma sample of chroma column i between two rows of w samples, of which the upper begins at an index of the run.
+// Where there is no column before it the first stands for that one.
 pub(crate) fn down_sample(run: &[u16], w: usize, upper: usize, i: usize) -> u16
     requires { (2 * i + 1 < w) × (upper + 2 * w ≤ length run.now) }
     ensures { result ≡ luma_beside run.now w upper i }

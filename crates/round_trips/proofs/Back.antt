@@ -9,13 +9,14 @@ use lib.Dec.{eqb}
 use lib.ListN.{length, length-append}
 use lib.Seq.{drop-append_seam, take-append_seam}
 use borrow.Author.Tests.{eq-eqb, lt-ltb}
+use Rattle.std.specs.Prelude.{None}
 use Rattle.plan.specs.declared.Component.{Component}
 use Rattle.plan.specs.declared.Plan.{Plan}
 use Rattle.plan.specs.Ranges.{header_fits}
 use Rattle.plan.specs.inner.Facts.{HeaderFacts, Arrays, Sized}
 use Rattle.plan.proofs.Truths.{both}
 use Rattle.plan.proofs.Facts.{header-kept, y_usable}
-use Rattle.fields.specs.Fields.{got, no_name}
+use Rattle.fields.specs.Fields.{got}
 use Rattle.sections.specs.Sections.{section}
 use Rattle.frame.specs.declared.Trailer.{Trailer}
 use Rattle.frame.specs.Frame.{trailer, trailer_fits, header, zeros_fit}
@@ -33,7 +34,7 @@ use Rattle.round_trips.proofs.Frames.{header_back, zeros_back, trailer_back, hea
 
 -- what reading answers of a block that it accepts
 abbrev pub accepted : Plan → Reading
-accepted p = record { number = 0; place = 0; field = no_name; plan = p }
+accepted p = record { number = 0; place = 0; field = None; plan = p }
 
 -- a part that stands between two others
 part_at : (a b c : List ℕ) (x y : ℕ) → x ≡ length a → y ≡ length a + length b → part (a ++ (b ++ c)) x y ≡ b

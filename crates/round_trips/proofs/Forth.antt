@@ -9,6 +9,7 @@ use lib.ListN.{length, take, drop, length-drop, take-append-drop}
 use lib.Pow.{are_bytes}
 use lib.Seq.{drop-drop, take_all, length-take-le}
 use borrow.Author.Tests.{eqb-true, ltb-true, ltb-false, not-false}
+use Rattle.std.specs.Prelude.{Option, Some}
 use Rattle.plan.specs.declared.Header.{Header}
 use Rattle.plan.specs.declared.Component.{Component}
 use Rattle.plan.specs.declared.Plan.{Plan}
@@ -50,7 +51,7 @@ record Where (C : Plan → Type 0) (r : Reading) : Type 0 where
   plan : r.number ≡ 0 → C r.plan
 
 module _ (C : Plan → Type 0) where
-  refuses : (k place : ℕ) (name : Name) → (k ≡ 0 → ⊥) → Where C (refusal k place name)
+  refuses : (k place : ℕ) (name : Option Name) → (k ≡ 0 → ⊥) → Where C (refusal k place name)
   refuses k place name f = record { plan = λ e. absurd (f e) }
 
   either : (t : Bool) {a b : Reading} → Where C a → (t ≡ false → Where C b) → Where C (cond t a b)
@@ -64,7 +65,7 @@ module _ (C : Plan → Type 0) where
   through version h e k a s small next f = go (section version h k s) (section_gives h k version s) ((section_mirrors h (header-kept h e) k version).forth s small)
     where
       go : (r : Read Component) → Gives (Fits h k version) r → Spelled End (section_bytes version h.d) (Placed h (header-kept h e) k) s r → Where C (met a s r next)
-      go (refused n name rest) some t = refuses n _ name some
+      go (refused n name rest) some t = refuses n _ (Some name) some
       go (got c rest) some t = f c (t.1.0 ∙ ap (λ (l : List ℕ). section_bytes version h.d c ++ l) t.1.1.1 ∙ no_more (section_bytes version h.d c))
 
 module _ (bytes : List ℕ) (small : are_bytes bytes ≡ true) where

@@ -23,11 +23,13 @@ use Rattle.plan.specs.inner.Facts.{HeaderFacts, Arrays}
 use Rattle.plan.proofs.Truths.{both, each, every-at}
 use Rattle.plan.proofs.Coefficients.{zero_abs}
 use Rattle.plan.proofs.Carrying.{carried_le}
+use Rattle.fields.specs.declared.kinds.Kind.{Kind}
+use Rattle.fields.specs.declared.kinds.Kind.TheVariants.{HdrInMaxInt, LeftOver, MappingIdc, NlqOffset, NumPivotsMinus2, PredPivotValue, SlopeInt, ThresholdInt}
 use Rattle.fields.specs.declared.Width.TheVariants.{One, Two, Four}
 use Rattle.fields.specs.Fields.{wide, padded}
 use Rattle.fields.proofs.Giving.{Each}
 use Rattle.pen.specs.Bytes.{bytes_of, signed_number, integer_part, fraction_part, number_bytes, in_turn}
-use Rattle.section_fields.specs.Fields.{asked, order_kind, integer_kind, integer_width, signed, integer_fits}
+use Rattle.section_fields.specs.Fields.{asked, order_kind, integer_kind, fraction_kind, integer_width, signed, integer_fits}
 use Rattle.section_fields.proofs.Bytes.{integer_small}
 use Rattle.sections.specs.Sections.{coefficient, unsigned, piece, pivot, nlq, section}
 use Rattle.sections.proofs.Places.{used_few}
@@ -63,19 +65,19 @@ module _ (h : Header) (facts : HeaderFacts h) (k : ℕ) where
       (then_mirrors (field_mirrors (asked (integer_kind idc i) k p i (integer_width idc)) (integer_fits idc) (λ v. 5) (integer_small idc))
       (λ z. signed_number (wide (integer_width idc)) (integer_part h.d z)) _ _
       (λ n q.
-      last_mirrors (field_mirrors (asked (integer_kind idc i + 1) k p i Four) (fraction_fits h) (λ v. 5) fraction_small) done
+      last_mirrors (field_mirrors (asked (fraction_kind (integer_kind idc i)) k p i Four) (fraction_fits h) (λ v. 5) fraction_small) done
       (λ f. fp h.d (signed (integer_width idc) n) f) (fraction_part h.d) _ _
       (λ z t. let s = coefficient_parts h idc z t.1 in (s.1.0, rw (← t.0) s.1.1))
       (λ f t. let s = parted h.d f (ltb-true f (2 ^ h.d) t) idc n q in (s.1, (s.0, tt))))
       (λ z t. let s = coefficient_parts h idc z t in (s.0, s.0)))
 
-  unsigned_mirrors : (kind : ℕ) → Mirrors Any (unsigned h k kind) (λ v. number_bytes 1 h.d (pos v)) (λ v. unsigned_fits h v ≡ true) (λ v. Unit {0})
+  unsigned_mirrors : (kind : Kind) → Mirrors Any (unsigned h k kind) (λ v. number_bytes 1 h.d (pos v)) (λ v. unsigned_fits h v ≡ true) (λ v. Unit {0})
   unfolding unsigned number_bytes
   unsigned_mirrors kind =
       then_mirrors (field_mirrors (asked kind k 0 0 One) (λ n. leb n 1) (λ v. 5) (λ v p. omega (arith, leb-true v 1 p)))
       (λ v. signed_number 1 (integer_part h.d (pos v))) _ _
       (λ n q.
-      last_mirrors (field_mirrors (asked (kind + 1) k 0 0 Four) (fraction_fits h) (λ v. 5) fraction_small) done
+      last_mirrors (field_mirrors (asked (fraction_kind kind) k 0 0 Four) (fraction_fits h) (λ v. 5) fraction_small) done
       (λ f. n * 2 ^ h.d + f) (λ v. fraction_part h.d (pos v)) _ _
       (λ v t. let s = unsigned_parts h v t.1 in (s.1.0, rw (← t.0) s.1.1))
       (λ f t. let s = unsigned_parted h n f q t in (s.1, (s.0, tt))))
@@ -84,10 +86,10 @@ module _ (h : Header) (facts : HeaderFacts h) (k : ℕ) where
   nlq_mirrors : Mirrors Any (nlq h k) (nlq_bytes h.d) (λ q. nlq_fits h q ≡ true) (λ q. Unit {0})
   unfolding nlq nlq_bytes nlq_fits
   nlq_mirrors =
-      then_mirrors (field_mirrors (asked 7 k 0 0 Two) (offset_fits h) (λ v. 5) (λ v. sample_small h.el v (omega (arith, facts.same_depth, facts.base_depth)))) (λ q. q.offset) _ _
-      (λ o _. then_mirrors (unsigned_mirrors 8) (λ q. q.maximum) _ _
-      (λ m _. then_mirrors (unsigned_mirrors 10) (λ q. q.slope) _ _
-      (λ s _. last_mirrors (unsigned_mirrors 12) done (λ t. record { offset = o; maximum = m; slope = s; threshold = t }) (λ q. q.threshold) _ _
+      then_mirrors (field_mirrors (asked NlqOffset k 0 0 Two) (offset_fits h) (λ v. 5) (λ v. sample_small h.el v (omega (arith, facts.same_depth, facts.base_depth)))) (λ q. q.offset) _ _
+      (λ o _. then_mirrors (unsigned_mirrors HdrInMaxInt) (λ q. q.maximum) _ _
+      (λ m _. then_mirrors (unsigned_mirrors SlopeInt) (λ q. q.slope) _ _
+      (λ s _. last_mirrors (unsigned_mirrors ThresholdInt) done (λ t. record { offset = o; maximum = m; slope = s; threshold = t }) (λ q. q.threshold) _ _
       (λ q t. ((each (nlq_tests h q) t.1.1.1).1.1.1.0, made q t.1.1.0 t.1.0 t.0))
       (λ t _. (refl, (refl, (refl, (refl, tt))))))
       (λ q t. ((each (nlq_tests h q) t.1.1).1.1.0, tt)))
@@ -128,7 +130,7 @@ module _ (h : Header) (facts : HeaderFacts h) (k : ℕ) where
   piece_mirrors : (p : ℕ) → Mirrors Any (piece h k p) (piece_bytes h.d) (λ q. (piece_fits k h q ≡ true) × Whole q) Whole
   unfolding piece piece_bytes
   piece_mirrors p =
-      then_mirrors (field_mirrors (asked 3 k p 0 One) (idc_fits k) (λ v. 5) idc_small) (λ q. q.idc) _ _
+      then_mirrors (field_mirrors (asked MappingIdc k p 0 One) (idc_fits k) (λ v. 5) idc_small) (λ q. q.idc) _ _
       (λ m _.
       then_mirrors (field_mirrors (asked (order_kind m) k p 0 One) (order_fits m) (λ v. 5) (λ v t. omega (arith, (used_few m v t).0))) (λ q. q.order) _ _
       (λ o t.
@@ -223,15 +225,15 @@ module _ (h : Header) (facts : HeaderFacts h) (k : ℕ) where
   pub section_mirrors : (version : ℕ) → Mirrors End (section version h k) (section_bytes version h.d) (Writable version) Placed
   unfolding section section_bytes
   section_mirrors version =
-      then_mirrors (field_mirrors (asked 1 k 0 0 One) count_fits (λ v. 5) one_byte) (λ c. c.n) _ _
+      then_mirrors (field_mirrors (asked NumPivotsMinus2 k 0 0 One) count_fits (λ v. 5) one_byte) (λ c. c.n) _ _
       (λ n t.
       let few : n ≤ most_n = leb-true n most_n t in
       mirrors_as
-      (then_mirrors (repeated_mirrors (pivot h k) (bytes_of 2) _ _ (λ i. field_mirrors (asked 2 k i 0 Two) (pivot_fits h) (λ v. 5) (λ v. sample_small h.bl v facts.base_depth)) 0 (pivots_used n)) (λ c. take (pivots_used n) c.preds) _ _
+      (then_mirrors (repeated_mirrors (pivot h k) (bytes_of 2) _ _ (λ i. field_mirrors (asked PredPivotValue k i 0 Two) (pivot_fits h) (λ v. 5) (λ v. sample_small h.bl v facts.base_depth)) 0 (pivots_used n)) (λ c. take (pivots_used n) c.preds) _ _
       (λ l s.
       then_mirrors (repeated_mirrors (piece h k) (piece_bytes h.d) _ _ piece_mirrors 0 (pieces_carried version n)) (λ c. take (pieces_carried version n) c.pieces) _ _
       (λ m u.
-      last_mirrors nlq_mirrors (over (asked 14 k 0 0 One).name 3)
+      last_mirrors nlq_mirrors (over (asked LeftOver k 0 0 One).name 3)
       (λ q. record { n = n; preds = padded pivot_places 0 l; pieces = padded piece_places zero_piece (pieces_read version n m); nlq = q }) (λ c. c.nlq) _ _
       (λ c x. let w = x.1.1.1 in ((rules c w.arrays w.fits).1.1.1, made c n l m few x.1.1.0 x.1.0 x.0 w))
       (λ q _. (

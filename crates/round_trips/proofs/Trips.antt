@@ -19,7 +19,7 @@ use Rattle.plan.specs.Rule7.{fitting}
 use Rattle.plan.specs.Versions.{can_carry}
 use Rattle.plan.specs.inner.Facts.{Sized}
 use Rattle.writer.specs.Writing.{block, writable, block_length, rules, refusal, answer, written}
-use Rattle.writer.proofs.Answers.{accepted as accepted-by}
+use Rattle.writer.proofs.Answers.{accepted_by as accepted-by}
 use Rattle.round_trips.specs.RoundTrips.{WrittenIsRead, ReadIsWritten, RaisedIsRead, from_header}
 use Rattle.round_trips.proofs.Carrying.{all_carried}
 use Rattle.round_trips.proofs.Back.{accepted, reads_back}

@@ -5,7 +5,7 @@ use std::fmt;
 use std::io::{Error, Result as IoResult};
 use std::os::unix::fs::FileExt;
 
-// An error by the number that the system gives it (errno).
+// An error by the number that the system gives it (errno): std's ErrorKind joins some that are said apart.
 #[derive(Clone, Copy)]
 struct Cause(i32);
 

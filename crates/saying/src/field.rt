@@ -1,14 +1,10 @@
 // A field of a section: its name and indices as the standard writes them, what was found there and what is allowed.
 use crate::numbers::power;
 use fields::Name;
+use fields::kinds::Kind;
 use fields::numbers::{four, one, two};
 use plan::limits::MOST_N;
 use plan::methods::{MMR, integer_limit, most_idc, most_order};
-use section_fields::kinds::{
-    HDR_IN_MAX, HDR_IN_MAX_INT, MAPPING_IDC, MMR_COEF, MMR_COEF_INT, MMR_CONSTANT,
-    MMR_CONSTANT_INT, MMR_ORDER_MINUS1, NLQ_OFFSET, NUM_PIVOTS_MINUS2, POLY_COEF, POLY_COEF_INT,
-    POLY_ORDER_MINUS1, PRED_PIVOT_VALUE, SLOPE, SLOPE_INT, THRESHOLD, THRESHOLD_INT,
-};
 use section_fields::signed;
 use std::fmt;
 
@@ -18,26 +14,26 @@ const POLYNOMIAL: u8 = 0; // mapping_idc
 const TERMS: usize = 7;
 
 // Left-over bytes are no field.
-fn name_of(kind: u8) -> &'static str {
+fn name_of(kind: Kind) -> &'static str {
     match kind {
-        NUM_PIVOTS_MINUS2 => "num_pivots_minus2",
-        PRED_PIVOT_VALUE => "pred_pivot_value",
-        MAPPING_IDC => "mapping_idc",
-        POLY_ORDER_MINUS1 => "poly_order_minus1",
-        POLY_COEF_INT => "poly_coef_int",
-        POLY_COEF => "poly_coef",
-        NLQ_OFFSET => "nlq_offset",
-        HDR_IN_MAX_INT => "hdr_in_max_int",
-        HDR_IN_MAX => "hdr_in_max",
-        SLOPE_INT => "linear_deadzone_slope_int",
-        SLOPE => "linear_deadzone_slope",
-        THRESHOLD_INT => "linear_deadzone_threshold_int",
-        THRESHOLD => "linear_deadzone_threshold",
-        MMR_ORDER_MINUS1 => "mmr_order_minus1",
-        MMR_CONSTANT_INT => "mmr_constant_int",
-        MMR_CONSTANT => "mmr_constant",
-        MMR_COEF_INT => "mmr_coef_int",
-        MMR_COEF => "mmr_coef",
+        Kind::NumPivotsMinus2 => "num_pivots_minus2",
+        Kind::PredPivotValue => "pred_pivot_value",
+        Kind::MappingIdc => "mapping_idc",
+        Kind::PolyOrderMinus1 => "poly_order_minus1",
+        Kind::PolyCoefInt => "poly_coef_int",
+        Kind::PolyCoef => "poly_coef",
+        Kind::NlqOffset => "nlq_offset",
+        Kind::HdrInMaxInt => "hdr_in_max_int",
+        Kind::HdrInMax => "hdr_in_max",
+        Kind::SlopeInt => "linear_deadzone_slope_int",
+        Kind::Slope => "linear_deadzone_slope",
+        Kind::ThresholdInt => "linear_deadzone_threshold_int",
+        Kind::Threshold => "linear_deadzone_threshold",
+        Kind::MmrOrderMinus1 => "mmr_order_minus1",
+        Kind::MmrConstantInt => "mmr_constant_int",
+        Kind::MmrConstant => "mmr_constant",
+        Kind::MmrCoefInt => "mmr_coef_int",
+        Kind::MmrCoef => "mmr_coef",
         _ => "",
     }
 }
@@ -67,14 +63,18 @@ impl fmt::Display for Indices {
             third,
         } = self.0;
         match kind {
-            PRED_PIVOT_VALUE
-            | MAPPING_IDC
-            | POLY_ORDER_MINUS1
-            | MMR_ORDER_MINUS1
-            | MMR_CONSTANT_INT
-            | MMR_CONSTANT => write!(f, "[{first}][{second}]"),
-            POLY_COEF_INT | POLY_COEF => write!(f, "[{first}][{second}][{third}]"),
-            MMR_COEF_INT | MMR_COEF => write!(f, "[{first}][{second}]{}", MmrIndices(third)),
+            Kind::PredPivotValue
+            | Kind::MappingIdc
+            | Kind::PolyOrderMinus1
+            | Kind::MmrOrderMinus1
+            | Kind::MmrConstantInt
+            | Kind::MmrConstant => write!(f, "[{first}][{second}]"),
+            Kind::PolyCoefInt | Kind::PolyCoef => write!(f, "[{first}][{second}][{third}]"),
+            Kind::MmrCoefInt | Kind::MmrCoef => write!(
+                f,
+                "[{first}][{second}]{}",
+                MmrIndices(third)
+            ),
             _ => write!(f, "[{first}]"),
         }
     }
@@ -110,29 +110,32 @@ impl fmt::Display for Value<'_> {
         let pair = two(self.bytes, 0);
         let quad = four(self.bytes, 0);
         match self.field.kind {
-            NUM_PIVOTS_MINUS2 => write!(f, "{byte}, allowed 0 to {MOST_N}"),
-            PRED_PIVOT_VALUE | NLQ_OFFSET => {
+            Kind::NumPivotsMinus2 => write!(f, "{byte}, allowed 0 to {MOST_N}"),
+            Kind::PredPivotValue | Kind::NlqOffset => {
                 let samples = power(one(self.head, 3).saturating_add(8));
                 write!(f, "{pair}, allowed less than {samples}")
             }
             // A section has one method or two.
-            MAPPING_IDC => match most_idc(self.field.first) {
+            Kind::MappingIdc => match most_idc(self.field.first) {
                 POLYNOMIAL => write!(f, "{byte}, allowed 0"),
                 most => write!(f, "{byte}, allowed 0 or {most}"),
             },
-            POLY_ORDER_MINUS1 => write!(f, "{byte}, allowed 0 to {}", most_order(POLYNOMIAL)),
-            MMR_ORDER_MINUS1 => write!(f, "{byte}, allowed 0 to {}", most_order(MMR)),
-            POLY_COEF_INT => Integer {
+            Kind::PolyOrderMinus1 => write!(f, "{byte}, allowed 0 to {}", most_order(POLYNOMIAL)),
+            Kind::MmrOrderMinus1 => write!(f, "{byte}, allowed 0 to {}", most_order(MMR)),
+            Kind::PolyCoefInt => Integer {
                 idc: POLYNOMIAL,
                 bytes: u32::from(byte),
             }
             .fmt(f),
-            MMR_CONSTANT_INT | MMR_COEF_INT => Integer {
+            Kind::MmrConstantInt | Kind::MmrCoefInt => Integer {
                 idc: MMR,
                 bytes: quad,
             }
             .fmt(f),
-            HDR_IN_MAX_INT | SLOPE_INT | THRESHOLD_INT => write!(f, "{byte}, allowed 0 to 1"),
+            Kind::HdrInMaxInt | Kind::SlopeInt | Kind::ThresholdInt => write!(
+                f,
+                "{byte}, allowed 0 to 1"
+            ),
             _ => {
                 let fractions = power(one(self.head, 2));
                 write!(f, "{quad}, allowed less than {fractions}")

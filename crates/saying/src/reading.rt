@@ -12,12 +12,12 @@ use plan::Plan;
 use refusals::Refusal;
 use std::fmt;
 
-// A block that is refused: the rule, and the byte and the field where its failure was met.
+// A block that is refused: the rule, and the byte and the field where its failure was met. Rules 1 and 2 name no field.
 #[derive(Clone, Copy)]
 pub struct Refused {
     rule: Refusal,
     place: usize,
-    field: Name,
+    field: Option<Name>,
 }
 
 // Reads a block to its plan, as the crate `block` does.
@@ -47,8 +47,8 @@ pub fn read_file<'r>(word: Word, room: &'r mut [u8]) -> Result<(Plan, &'r [u8]),
 impl Refused {
     // The first byte of the field that was refused: of a header, all of which is refused at its begin, the column's.
     pub fn first_byte(self) -> usize {
-        match self.rule {
-            Refusal::Header => self.place.wrapping_add(place_of(self.field.kind)),
+        match (self.rule, self.field) {
+            (Refusal::Header, Some(field)) => self.place.wrapping_add(place_of(field.kind)),
             _ => self.place,
         }
     }
@@ -94,25 +94,26 @@ impl fmt::Display for What<'_> {
     fn fmt<W: fmt::Write>(&self, f: &mut fmt::Formatter<W>) -> fmt::Result {
         let last = self.last;
         let Refused { rule, place, field } = self.refused;
-        match rule {
-            Refusal::Short => Short(last).fmt(f),
-            Refusal::Trailer => Wrong(last).fmt(f),
-            Refusal::Length => Section {
+        match (rule, field) {
+            (Refusal::Short, _) => Short(last).fmt(f),
+            (Refusal::Trailer, _) => Wrong(last).fmt(f),
+            (Refusal::Length, Some(field)) => Section {
                 number: field.first,
                 last,
             }
             .fmt(f),
-            Refusal::Header => Column {
+            (Refusal::Header, Some(field)) => Column {
                 kind: field.kind,
                 head: last.rest(place),
             }
             .fmt(f),
-            _ => Found {
+            (_, Some(field)) => Found {
                 field,
                 bytes: last.rest(place),
                 head: last.block(),
             }
             .fmt(f),
+            (_, None) => Ok(()),
         }
     }
 }

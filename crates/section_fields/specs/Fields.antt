@@ -1,17 +1,16 @@
--- The fields of a section of the composing block. A field's kind, by which a refusal names it, is its number in this list:
--- 1 num_pivots_minus2, 2 pred_pivot_value, 3 mapping_idc, 4 poly_order_minus1, 5 poly_coef_int, 6 poly_coef, 7 nlq_offset, 8 and 9
--- hdr_in_max, 10 and 11 linear_deadzone_slope, 12 and 13 linear_deadzone_threshold (integer part and fraction), 14 the bytes left over,
--- 15 mmr_order_minus1, 16 mmr_constant_int, 17 mmr_constant, 18 mmr_coef_int, 19 mmr_coef.
+-- The fields of a section of the composing block, which have the standard's names.
 use Rattle.std.specs.Prelude.{Bool, cond, ◌||◌, List, ℕ, ◌-◌, ◌/◌, ◌^◌, ltb, eqb, ℤ, pos, ◌-ℤ◌}
 use Rattle.plan.specs.Ranges.{within, integer_limit}
 use Rattle.refusals.specs.declared.Refusal.TheVariants.{Length}
 use Rattle.fields.specs.declared.Width.{Width}
 use Rattle.fields.specs.declared.Width.TheVariants.{One, Four}
+use Rattle.fields.specs.declared.kinds.Kind.{Kind}
+use Rattle.fields.specs.declared.kinds.Kind.TheVariants.{PolyOrderMinus1, PolyCoefInt, PolyCoef, HdrInMaxInt, HdrInMax, SlopeInt, Slope, ThresholdInt, Threshold, MmrOrderMinus1, MmrConstantInt, MmrConstant, MmrCoefInt, MmrCoef}
 use Rattle.fields.specs.declared.Ask.{Ask}
 use Rattle.fields.specs.Fields.{Read, wide, field}
 
 -- what is asked of a field of section k, with its indices: rule 3 where it runs past its section
-abbrev pub asked : ℕ → ℕ → ℕ → ℕ → Width → Ask
+abbrev pub asked : Kind → ℕ → ℕ → ℕ → Width → Ask
 asked kind k i j width = record { name = record { kind = kind; first = k; second = i; third = j }; width = width; past = Length }
 
 -- a field that is refused 5 where it is outside its range
@@ -19,12 +18,22 @@ abbrev pub ranged : Ask → (ℕ → Bool) → List ℕ → Read ℕ
 ranged a fits = field a fits (λ v. 5)
 
 -- by mapping_idc: the kind of a piece's order
-abbrev pub order_kind : ℕ → ℕ
-order_kind idc = cond (eqb idc 1) 15 4
+abbrev pub order_kind : ℕ → Kind
+order_kind idc = cond (eqb idc 1) MmrOrderMinus1 PolyOrderMinus1
 
--- by mapping_idc: the kind of the integer part in place i of a row, where MMR has its constant in place 0; a fraction's is one more
-abbrev pub integer_kind : ℕ → ℕ → ℕ
-integer_kind idc i = cond (eqb idc 1) (cond (eqb i 0) 16 18) 5
+-- by mapping_idc: the kind of the integer part in place i of a row, where MMR has its constant in place 0
+abbrev pub integer_kind : ℕ → ℕ → Kind
+integer_kind idc i = cond (eqb idc 1) (cond (eqb i 0) MmrConstantInt MmrCoefInt) PolyCoefInt
+
+-- the kind of a number's fraction, by its integer part's
+abbrev pub fraction_kind : Kind → Kind
+fraction_kind PolyCoefInt = PolyCoef
+fraction_kind HdrInMaxInt = HdrInMax
+fraction_kind SlopeInt = Slope
+fraction_kind ThresholdInt = Threshold
+fraction_kind MmrConstantInt = MmrConstant
+fraction_kind MmrCoefInt = MmrCoef
+fraction_kind kind = kind
 
 -- by mapping_idc: an integer part has 1 byte, or 4
 abbrev pub integer_width : ℕ → Width

@@ -1,23 +1,20 @@
 // The fields of a section that have a rule of their own, and how each is named.
 #![tactic(auto)]
 
-pub mod kinds; // the kinds of a section's fields
-
 ghost use Rattle.std.specs.Prelude.{true, ◌≡◌, ◌+◌, ◌^◌, ◌≤◌, IfOk};
 ghost use Rattle.plan.specs.Ranges.{idc_fits, order_fits};
 ghost use Rattle.fields.specs.inner.Readers.{as_read};
 ghost use Rattle.fields.specs.declared.Width.TheVariants.{One, Four};
-ghost use Rattle.section_fields.specs.Fields.{asked, ranged, order_kind, integer_kind, integer_width, numbers, signed, integer_fits};
+ghost use Rattle.fields.specs.declared.kinds.Kind.TheVariants.{MappingIdc};
+ghost use Rattle.section_fields.specs.Fields.{asked, ranged, order_kind, integer_kind, fraction_kind, integer_width, numbers, signed, integer_fits};
 
+use fields::kinds::Kind;
 use fields::{Ask, Failure, Name, Width, at_most, raw};
-use kinds::{
-    MAPPING_IDC, MMR_COEF_INT, MMR_CONSTANT_INT, MMR_ORDER_MINUS1, POLY_COEF_INT, POLY_ORDER_MINUS1,
-};
 use plan::methods::{MMR, integer_limit, most_idc, most_order};
 use refusals::Refusal;
 
 // What is asked of a field of section k.
-pub fn asked(kind: u8, k: usize, i: usize, j: usize, width: Width) -> Ask
+pub fn asked(kind: Kind, k: usize, i: usize, j: usize, width: Width) -> Ask
     ensures { result ≡ asked kind k i j width }
 {
     Ask {
@@ -34,21 +31,21 @@ pub fn asked(kind: u8, k: usize, i: usize, j: usize, width: Width) -> Ask
 
 // mapping_idc of piece p.
 pub fn idc(rest: &mut &[u8], k: usize, p: usize) -> Result<u8, Failure>
-    ensures value { as_read result rest.new.now ≡ ranged (asked 3 k p 0 One) (idc_fits k) rest.old.now }
+    ensures value { as_read result rest.new.now ≡ ranged (asked MappingIdc k p 0 One) (idc_fits k) rest.old.now }
     ensures small { IfOk result (λ v. v ≤ 1) }
 {
-    let a = asked(MAPPING_IDC, k, p, 0, Width::One);
+    let a = asked(Kind::MappingIdc, k, p, 0, Width::One);
     let v = at_most(rest, a, u64::from(most_idc(k)), Refusal::Field)?;
     Ok(v as u8)
 }
 
-fn order_kind(idc: u8) -> u8
+fn order_kind(idc: u8) -> Kind
     ensures { result ≡ order_kind idc }
 {
     if idc == MMR {
-        MMR_ORDER_MINUS1
+        Kind::MmrOrderMinus1
     } else {
-        POLY_ORDER_MINUS1
+        Kind::PolyOrderMinus1
     }
 }
 
@@ -62,17 +59,32 @@ pub fn order(rest: &mut &[u8], k: usize, p: usize, idc: u8) -> Result<u8, Failur
     Ok(v as u8)
 }
 
-// The kind of the integer part in place i of a row; its fraction's is one more.
-fn integer_kind(idc: u8, i: usize) -> u8
-    ensures { (result ≡ integer_kind idc i) × (result ≤ 18) }
+// The kind of the integer part in place i of a row.
+fn integer_kind(idc: u8, i: usize) -> Kind
+    ensures { result ≡ integer_kind idc i }
 {
     if idc != MMR {
-        return POLY_COEF_INT;
+        return Kind::PolyCoefInt;
     }
     if i == 0 {
-        MMR_CONSTANT_INT
+        Kind::MmrConstantInt
     } else {
-        MMR_COEF_INT
+        Kind::MmrCoefInt
+    }
+}
+
+// The kind of a number's fraction, by its integer part's.
+pub fn fraction_kind(kind: Kind) -> Kind
+    ensures { result ≡ fraction_kind kind }
+{
+    match kind {
+        Kind::PolyCoefInt => Kind::PolyCoef,
+        Kind::HdrInMaxInt => Kind::HdrInMax,
+        Kind::SlopeInt => Kind::Slope,
+        Kind::ThresholdInt => Kind::Threshold,
+        Kind::MmrConstantInt => Kind::MmrConstant,
+        Kind::MmrCoefInt => Kind::MmrCoef,
+        _ => kind,
     }
 }
 
@@ -99,9 +111,9 @@ fn integer_fits(idc: u8, v: u64) -> bool
 
 // What is asked of the fraction in place i of piece p.
 pub fn fraction_asked(k: usize, p: usize, idc: u8, i: usize) -> Ask
-    ensures { result ≡ asked (integer_kind idc i + 1) k p i Four }
+    ensures { result ≡ asked (fraction_kind (integer_kind idc i)) k p i Four }
 {
-    asked(integer_kind(idc, i) + 1, k, p, i, Width::Four)
+    asked(fraction_kind(integer_kind(idc, i)), k, p, i, Width::Four)
 }
 
 // The integer part in place i of piece p, as its bytes stand.

@@ -21,6 +21,7 @@ use Rattle.plan.specs.Ranges.{most_n, count_fits}
 use Rattle.plan.specs.Rule7.{piece_places, no_piece, zero_piece, piece_fits}
 use Rattle.plan.specs.Versions.{pieces_carried, pieces_read}
 use Rattle.plan.specs.inner.Copying.{copied}
+use Rattle.fields.specs.declared.kinds.Kind.TheVariants.{LeftOver}
 use Rattle.fields.specs.declared.Width.TheVariants.{One}
 use Rattle.fields.specs.Fields.{Read, refused, got, ◌then◌, repeated, padded, ended}
 use Rattle.fields.specs.inner.Readers.{filled}
@@ -56,7 +57,7 @@ module _ (h : Header) (k version n : ℕ) where
   pieces_of p = padded piece_places zero_piece (pieces_read version n p)
 
   abbrev pub after_pieces : List ℕ → List Piece → List ℕ → Read Component
-  after_pieces l p rest = nlq h k rest then λ q rest. ended (asked 14 k 0 0 One).name 3 (made_of l p q) rest
+  after_pieces l p rest = nlq h k rest then λ q rest. ended (asked LeftOver k 0 0 One).name 3 (made_of l p q) rest
 
   abbrev pub after_pivots : List ℕ → List ℕ → Read Component
   after_pivots l rest = repeated 0 (pieces_carried version n) (piece h k) rest then λ p rest. after_pieces l (pieces_of p) rest

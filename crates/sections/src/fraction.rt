@@ -4,21 +4,22 @@ ghost use Rattle.fields.specs.inner.Readers.{as_read};
 ghost use Rattle.section_fields.specs.Fields.{ranged};
 ghost use Rattle.sections.specs.Sections.{coefficient, unsigned};
 
-use crate::header::FittingHeader;
+use fields::kinds::Kind;
 use fields::{Ask, Failure, Width, at_most, below};
+use plan::ranges::FittingHeader;
 use refusals::Refusal;
-use section_fields::{asked, fraction_asked, integer, signed};
+use section_fields::{asked, fraction_asked, fraction_kind, integer, signed};
 
 // 2 ^ k: what a number of k bits is below.
-fn power(k: u8) -> u64
+fn power(k: u32) -> u64
     requires { k ≤ 32 }
     ensures { (result ≡ 2 ^ k) × (result ≤ 2 ^ 32) }
 {
-    1u64 << (k as u32)
+    1u64 << k
 }
 
 // A field below 2 ^ bits.
-pub(crate) fn below_power(rest: &mut &[u8], a: Ask, bits: u8) -> Result<u64, Failure>
+pub(crate) fn below_power(rest: &mut &[u8], a: Ask, bits: u32) -> Result<u64, Failure>
     requires { bits ≤ 32 }
     ensures value { as_read result rest.new.now ≡ ranged a (λ v. ltb v (2 ^ bits)) rest.old.now }
     ensures small { IfOk result (λ v. v < 2 ^ bits) }
@@ -46,19 +47,18 @@ pub(crate) fn coefficient(
     Ok(a * (one as i64) + (f as i64))
 }
 
-// A number whose integer part is 0 or 1: the kind is the integer part's, and the fraction's is one more.
+// A number whose integer part is 0 or 1, by its integer part's kind.
 pub(crate) fn unsigned(
     rest: &mut &[u8],
     h: FittingHeader,
     k: usize,
-    kind: u8,
+    kind: Kind,
 ) -> Result<u64, Failure>
-    requires { kind < 255 }
     ensures { as_read result rest.new.now ≡ unsigned h.header k kind rest.old.now }
 {
     let bits = h.fraction_bits();
     let one = power(bits);
     let n = at_most(rest, asked(kind, k, 0, 0, Width::One), 1, Refusal::Field)?;
-    let f = below_power(rest, asked(kind + 1, k, 0, 0, Width::Four), bits)?;
+    let f = below_power(rest, asked(fraction_kind(kind), k, 0, 0, Width::Four), bits)?;
     Ok(n * one + f)
 }

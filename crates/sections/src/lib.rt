@@ -2,9 +2,7 @@
 #![tactic(auto)]
 
 mod fraction; // numbers with a fraction
-mod header; // a header that passes rule 4
 mod pieces; // the pieces: mapping_idc, the order, the coefficients
 mod section; // the whole: pivots, pieces, the residual's numbers
 
-pub use header::FittingHeader;
 pub use section::read_section;

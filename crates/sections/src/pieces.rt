@@ -7,11 +7,11 @@ ghost use Rattle.sections.specs.Sections.{coefficient, piece};
 ghost use Rattle.sections.specs.inner.Holding.{held};
 
 use crate::fraction::coefficient;
-use crate::header::FittingHeader;
 use fields::Failure;
 use plan::Piece;
 use plan::limits::{PIECES, ROW};
 use plan::methods::coefficients_used;
+use plan::ranges::FittingHeader;
 use plan::versions::{copy_last, pieces_carried};
 use section_fields::{idc, order};
 

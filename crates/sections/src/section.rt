@@ -5,17 +5,14 @@ ghost use Rattle.fields.specs.inner.Readers.{as_read, filled};
 ghost use Rattle.sections.specs.Sections.{pivot, nlq, section};
 
 use crate::fraction::{below_power, unsigned};
-use crate::header::FittingHeader;
 use crate::pieces::held;
+use fields::kinds::Kind;
 use fields::{Failure, Width, at_most, ended};
 use plan::limits::{MOST_N, PIVOTS};
+use plan::ranges::FittingHeader;
 use plan::{Component, Nlq};
 use refusals::Refusal;
 use section_fields::asked;
-use section_fields::kinds::{
-    HDR_IN_MAX_INT, LEFT_OVER, NLQ_OFFSET, NUM_PIVOTS_MINUS2, PRED_PIVOT_VALUE, SLOPE_INT,
-    THRESHOLD_INT,
-};
 
 fn pivots(
     rest: &mut &[u8],
@@ -28,8 +25,8 @@ fn pivots(
 {
     let mut preds = [0; PIVOTS];
     for i in 0..count {
-        let a = asked(PRED_PIVOT_VALUE, k, i, 0, Width::Two);
-        preds[i] = below_power(rest, a, h.pivot_bits())? as u16;
+        let a = asked(Kind::PredPivotValue, k, i, 0, Width::Two);
+        preds[i] = below_power(rest, a, h.bl_depth())? as u16;
     }
     Ok(preds)
 }
@@ -37,11 +34,11 @@ fn pivots(
 fn nlq(rest: &mut &[u8], h: FittingHeader, k: usize) -> Result<Nlq, Failure>
     ensures { as_read result rest.new.now ≡ nlq h.header k rest.old.now }
 {
-    let a = asked(NLQ_OFFSET, k, 0, 0, Width::Two);
-    let offset = below_power(rest, a, h.offset_bits())? as u16;
-    let maximum = unsigned(rest, h, k, HDR_IN_MAX_INT)?;
-    let slope = unsigned(rest, h, k, SLOPE_INT)?;
-    let threshold = unsigned(rest, h, k, THRESHOLD_INT)?;
+    let a = asked(Kind::NlqOffset, k, 0, 0, Width::Two);
+    let offset = below_power(rest, a, h.el_depth())? as u16;
+    let maximum = unsigned(rest, h, k, Kind::HdrInMaxInt)?;
+    let slope = unsigned(rest, h, k, Kind::SlopeInt)?;
+    let threshold = unsigned(rest, h, k, Kind::ThresholdInt)?;
     Ok(Nlq {
         offset,
         maximum,
@@ -60,12 +57,12 @@ pub fn read_section(
 ) -> Result<Component, Failure>
     ensures { as_read result rest.new.now ≡ section version h.header k rest.old.now }
 {
-    let a = asked(NUM_PIVOTS_MINUS2, k, 0, 0, Width::One);
+    let a = asked(Kind::NumPivotsMinus2, k, 0, 0, Width::One);
     let n = at_most(rest, a, u64::from(MOST_N), Refusal::Field)? as u8;
     let preds = pivots(rest, h, k, usize::from(n) + 2)?;
     let pieces = held(rest, version, h, k, n)?;
     let nlq = nlq(rest, h, k)?;
-    let over = asked(LEFT_OVER, k, 0, 0, Width::One);
+    let over = asked(Kind::LeftOver, k, 0, 0, Width::One);
     ended(rest, over.name, Refusal::Length)?;
     Ok(Component {
         n,

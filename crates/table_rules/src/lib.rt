@@ -49,12 +49,7 @@ fn method_of(plan: Plan) -> Result<Method, Refusal>
 
 // Refuses by the first rule met, in this order. The plan is asked once and not read again: handed to one call more it would be
 // copied once more.
-pub fn refusal_of(
-    plan: Plan,
-    table: &[u16],
-    work: Work<'_>,
-    output: usize,
-) -> Result<(), Refusal>
+pub fn refusal_of(plan: Plan, table: &[u16], work: Work<'_>, output: usize) -> Result<(), Refusal>
     ensures { number_in result ≡ refusal (given_work (by_table table.now) plan work.entry) output }
 {
     let method = method_of(plan)?;

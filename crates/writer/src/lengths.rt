@@ -1,10 +1,10 @@
 // How many bytes the sections of a block have, and so the block.
-ghost use Rattle.std.specs.Prelude.{◌≡◌, ◌+◌, ◌≤◌, false, MatchOption};
+ghost use Rattle.std.specs.Prelude.{◌≡◌, ◌+◌, ◌≤◌, true, false, MatchOption};
+ghost use Rattle.plan.specs.Rule7.{fitting};
 ghost use Rattle.writer.specs.Writing.{writable};
 ghost use Rattle.writer.specs.inner.Lengths.{AreLengths};
 
 use plan::Plan;
-use rule_seven::passes;
 use section_writer::section_length;
 
 #[derive(Clone, Copy)]
@@ -24,13 +24,11 @@ impl Lengths {
     }
 }
 
-// There are none where rule 7 refuses the plan, or it has no block of this version.
+// Of a plan that passes rule 7. There are none where it has no block of this version.
 pub(crate) fn section_lengths(plan: &Plan, version: u16) -> Option<Lengths>
+    requires { fitting plan.now ≡ true }
     ensures { MatchOption result (writable plan.now version ≡ false) (λ l. AreLengths plan.now version l.y l.cb l.cr) }
 {
-    if !passes(*plan) {
-        return None;
-    }
     Some(Lengths {
         y: section_length(version, &plan.y)?,
         cb: section_length(version, &plan.cb)?,

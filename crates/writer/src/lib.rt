@@ -12,6 +12,7 @@ use header_writer::put_header;
 use lengths::section_lengths;
 use plan::Plan;
 use refusals::Refusal;
+use rule_seven::passes;
 use section_writer::put_section;
 use trailer::put_trailer;
 
@@ -22,6 +23,9 @@ pub fn length(plan: Plan, version: u16) -> usize
     ensures value { result ≡ block_length plan version }
     ensures limits { Limits plan version result }
 {
+    if !passes(plan) {
+        return 0;
+    }
     match section_lengths(&plan, version) {
         Some(lengths) => lengths.block(),
         None => 0,
@@ -30,12 +34,16 @@ pub fn length(plan: Plan, version: u16) -> usize
 
 // Writes the block of a plan in a version from the first byte of a lent slice on, and gives its length. Refused by rule 7,
 // for the plan or because it has no block of this version, or by rule 12, for a slice that is shorter than the block, in
-// this order, it writes nothing; bytes after the block stay.
+// this order, it writes nothing; bytes after the block stay. The plan is handed to rule 7 here, and not lent on to be tested: it is
+// large, and out of a loan it would be copied once more.
 pub fn write(plan: Plan, version: u16, out: &mut [u8]) -> Result<usize, Refusal>
     ensures answers { says result ≡ answer plan version (length out.old) }
     ensures writes { out.new ≡ written plan version out.old }
     ensures sized { Sized plan }
 {
+    if !passes(plan) {
+        return Err(Refusal::Plan);
+    }
     let lengths = section_lengths(&plan, version).ok_or(Refusal::Plan)?;
     let size = lengths.block();
     if out.len() < size {

@@ -1,9 +1,8 @@
 -- What the private functions answer, as an answer of reading.
-use Rattle.std.specs.Prelude.{◌≡◌, Result, Ok, Err}
+use Rattle.std.specs.Prelude.{◌≡◌, Result, Ok, Err, None}
 use Rattle.refusals.specs.Refusals.{number_of}
 use Rattle.plan.specs.declared.Component.{Component}
 use Rattle.plan.specs.declared.Plan.{Plan}
-use Rattle.fields.specs.Fields.{no_name}
 use Rattle.block.specs.declared.Reading.{Reading}
 use Rattle.block.specs.declared.Fault.{Fault}
 use Rattle.block.specs.Reading.{refusal}
@@ -12,7 +11,7 @@ abbrev pub denied : Fault → Reading
 denied f = refusal (number_of f.refusal) f.place f.field
 
 abbrev pub said : Result Plan Fault → Reading
-said (Ok p) = record { number = 0; place = 0; field = no_name; plan = p }
+said (Ok p) = record { number = 0; place = 0; field = None; plan = p }
 said (Err f) = denied f
 
 -- a section that is asked for: what follows takes its component, or its failure is the answer

@@ -33,6 +33,7 @@ use Rattle.calls.specs.promises.method_of as method_of_promise
 use Rattle.calls.specs.promises.bl_depth as bl_depth_promise
 use Rattle.calls.specs.promises.el_depth as el_depth_promise
 use Rattle.calls.specs.promises.hdr_depth as hdr_depth_promise
+use Rattle.calls.specs.promises.fraction_bits as fraction_bits_promise
 use Rattle.calls.specs.promises.most_idc as most_idc_promise
 use Rattle.calls.specs.promises.most_order as most_order_promise
 use Rattle.calls.specs.promises.coefficients_used as coefficients_used_promise
@@ -106,6 +107,7 @@ pub record LeavesSettled : Type 0 where
   pub bl_depth : OneAnswer bl_depth_promise.Post
   pub el_depth : OneAnswer el_depth_promise.Post
   pub hdr_depth : OneAnswer hdr_depth_promise.Post
+  pub fraction_bits : OneAnswer fraction_bits_promise.Post
   pub most_idc : OneAnswer most_idc_promise.Post
   pub most_order : OneAnswer most_order_promise.Post
   pub coefficients_used : OneAnswer coefficients_used_promise.Post

@@ -38,7 +38,7 @@ mapped_chroma d c s t ts =
     let q = piece_at c (pivot_idx (at (pivot_table c.preds)) c.n s) in
     piece_value 3 d (kind_of d q) q.row t ts
 
--- the kinds of the pieces that are used, and in the other places none
+-- the kinds of the pieces that are used; in the other places the kind of a broken one
 pub record Kinds (d : ℕ) (c : Component) (k : ℕ) (kinds : List Kind) : Type 0 where
   pub long : length kinds ≡ piece_places
   pub done : (p : ℕ) → p < k → get_or kinds p Polynomial ≡ kind_of d (piece_at c p)

@@ -1,7 +1,8 @@
 -- `speed_write` meets its contract: it is `write`, with the number alone. Assumes nothing.
 use mathlib.Core.Path.{ap, ◌∙◌}
 use Rattle.refusals.specs.Refusals.{Outcome}
+use Rattle.refusals.proofs.Laws.{says-number}
 use Rattle.speed.proofs.speed_write.Goals as goal
 
 pub returns : goal.returns
-returns c = record { answers = c.number.ensures ∙ ap (λ (o : Outcome). o.number) c.write.ensures.answers; writes = c.write.ensures.writes }
+returns c = record { answers = c.number.ensures ∙ says-number _ _ ∙ ap (λ (o : Outcome). o.number) c.write.ensures.answers; writes = c.write.ensures.writes }

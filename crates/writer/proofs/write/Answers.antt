@@ -1,8 +1,8 @@
-use Rattle.std.proofs.Common.{◌≡◌}
+use Rattle.std.proofs.Common.{◌≡◌, sym, ◌∙◌}
 use Rattle.refusals.specs.declared.Refusal.TheVariants.{Plan}
 use Rattle.std.proofs.lemmas.Result.{err_from_is_err_and}
 use Rattle.plan.proofs.Sizes.{sized}
-use Rattle.writer.proofs.Answers.{refused_seven, refused_twelve, accepted}
+use Rattle.writer.proofs.Answers.{bad_plan, refused_seven, refused_twelve, accepted}
 use Rattle.writer.proofs.Blocks.{trailer_room, made_block}
 use Rattle.writer.proofs.write.Goals as goal
 
@@ -29,4 +29,12 @@ returns c =
     let l = rw c.in_ok-lengths.ensures.ok_part at c.section_lengths.ensures in
     let r = accepted c.args.plan c.args.version c.args.out.now l c.block-size.ensures c.if-out-size.false
     (made_block c.args.plan c.args.version l c.args.out.now (rw c.block-size.ensures at c.if-out-size.false) c.put_header.ensures c.put_section.ensures c.put_section-2.ensures c.put_section-3.ensures c.put_trailer.ensures) in
+    record { answers = r.0; writes = r.1; sized = sized c.args.plan _ c.well_formed.0 }
+
+pub section_lengths-requires : goal.section_lengths-requires
+section_lengths-requires c = sym c.passes.ensures ∙ c.if-not-passes.false
+
+pub returns-then-not-passes : goal.returns-then-not-passes
+returns-then-not-passes c =
+    let r = refused_seven c.args.plan c.args.version c.args.out.now (bad_plan c.args.plan c.args.version (sym c.passes.ensures ∙ c.if-not-passes.true)) in
     record { answers = r.0; writes = r.1; sized = sized c.args.plan _ c.well_formed.0 }

@@ -1,14 +1,13 @@
 -- `wrong_column` meets its contract: each of the calls says what it answers.
-use Rattle.frame.specs.Frame.{wrong_column}
+use mathlib.Core.Path.{ap, ◌∙◌}
+use Rattle.frame.specs.Frame.{named, wrong_column}
 use Rattle.frame.proofs.columns.wrong_column.Goals as goal
+
+pub returns-in_err-kind : goal.returns-in_err-kind
+unfolding wrong_column
+returns-in_err-kind c =
+    c.from_residual.ensures ∙ ap named (rw (c.wrong_size-rest.ensures, c.one-zero7.ensures, c.two-zero14.ensures, c.four-zero20.ensures) at c.in_err-kind.ensures)
 
 pub returns : goal.returns
 unfolding wrong_column
-returns c =
-    rw (
-      c.wrong_format-kind.ensures,
-      c.wrong_size-rest.ensures,
-      c.one-zero7.ensures,
-      c.two-zero14.ensures,
-      c.four-zero20.ensures,
-    )
+returns c = ap named (rw (c.wrong_size-rest.ensures, c.one-zero7.ensures, c.two-zero14.ensures, c.four-zero20.ensures) at c.in_ok-kind.ensures)

@@ -19,7 +19,7 @@ returns-in_err-n c = stops _ _ _ c.from_residual.ensures c.in_err-n.ensures.valu
 pub returns-in_err-f : goal.returns-in_err-f
 unfolding coefficient
 returns-in_err-f c =
-    goes_on _ c.in_ok-n.ensures.value (stops _ _ _ c.from_residual-in_err-f.ensures (rw (c.fraction_asked.ensures, c.fraction_bits-bits.ensures.0) at c.in_err-f.ensures.value))
+    goes_on _ c.in_ok-n.ensures.value (stops _ _ _ c.from_residual-in_err-f.ensures (rw (c.fraction_asked.ensures, c.fraction_bits-bits.ensures.is) at c.in_err-f.ensures.value))
 
 pub overflow_mul-result : goal.overflow_mul-result
 overflow_mul-result c =
@@ -38,4 +38,4 @@ returns c =
     let scale : Holds c.power-one.result (pos c.power-one.result) (2 ^ 32) = number c.power-one.ensures.1 tt in
     let rest : Holds c.in_ok-f.f (pos c.in_ok-f.f) (2 ^ 32) = number (omega (arith, c.in_ok-f.ensures.small, pow_mono {i = c.fraction_bits-bits.result} {j = 32} (omega arith))) tt in
     goes_on _ c.in_ok-n.ensures.value
-    (goes_on _ (rw (c.fraction_asked.ensures, c.fraction_bits-bits.ensures.0) at c.in_ok-f.ensures.value) (rw ((add (mul whole scale tt) rest tt).is, c.signed-a.ensures, c.power-one.ensures.0, c.fraction_bits-bits.ensures.0)))
+    (goes_on _ (rw (c.fraction_asked.ensures, c.fraction_bits-bits.ensures.is) at c.in_ok-f.ensures.value) (rw ((add (mul whole scale tt) rest tt).is, c.signed-a.ensures, c.power-one.ensures.0, c.fraction_bits-bits.ensures.is)))

@@ -10,9 +10,9 @@ returns-in_err-n c = stops _ _ _ c.from_residual.ensures (rw c.asked.ensures at 
 pub returns-in_err-f : goal.returns-in_err-f
 unfolding unsigned
 returns-in_err-f c =
-    goes_on _ (rw c.asked.ensures at c.in_ok-n.ensures.value) (stops _ _ _ c.from_residual-in_err-f.ensures (rw (c.asked-2.ensures, c.fraction_bits-bits.ensures.0) at c.in_err-f.ensures.value))
+    goes_on _ (rw c.asked.ensures at c.in_ok-n.ensures.value) (stops _ _ _ c.from_residual-in_err-f.ensures (rw (c.asked-2.ensures, c.fraction_kind.ensures, c.fraction_bits-bits.ensures.is) at c.in_err-f.ensures.value))
 
 pub returns : goal.returns
 unfolding unsigned
 returns c =
-    goes_on _ (rw c.asked.ensures at c.in_ok-n.ensures.value) (goes_on _ (rw (c.asked-2.ensures, c.fraction_bits-bits.ensures.0) at c.in_ok-f.ensures.value) (rw (c.power-one.ensures.0, c.fraction_bits-bits.ensures.0)))
+    goes_on _ (rw c.asked.ensures at c.in_ok-n.ensures.value) (goes_on _ (rw (c.asked-2.ensures, c.fraction_kind.ensures, c.fraction_bits-bits.ensures.is) at c.in_ok-f.ensures.value) (rw (c.power-one.ensures.0, c.fraction_bits-bits.ensures.is)))

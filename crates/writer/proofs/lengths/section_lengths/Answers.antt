@@ -1,12 +1,8 @@
-use Rattle.std.proofs.Common.{sym, ◌∙◌}
-use Rattle.writer.proofs.Answers.{bad_plan, no_y, no_cb, no_cr, are_lengths}
+use Rattle.writer.proofs.Answers.{no_y, no_cb, no_cr, are_lengths}
 use Rattle.writer.proofs.Blocks.{small}
 use Rattle.writer.proofs.lengths.section_lengths.Goals as goal
 
 -- `section_lengths` meets its contract. Assumes nothing.
-pub returns-then-not-passes : goal.returns-then-not-passes
-returns-then-not-passes c = bad_plan c.args.plan.now c.args.version (sym c.passes.ensures ∙ c.if-not-passes.true)
-
 pub returns-in_err-section_length : goal.returns-in_err-section_length
 returns-in_err-section_length c = rw c.from_residual.ensures (no_y c.args.plan.now c.args.version c.in_err-section_length.ensures.is)
 
@@ -18,8 +14,8 @@ returns-in_err-section_length-3 c = rw c.from_residual-in_err-section_length-3.e
 
 pub returns : goal.returns
 returns c =
-    are_lengths c.args.plan.now c.args.version (sym c.passes.ensures ∙ c.if-not-passes.false) c.in_ok-section_length.ensures.is c.in_ok-section_length-2.ensures.is c.in_ok-section_length-3.ensures.is
+    are_lengths c.args.plan.now c.args.version c.requires c.in_ok-section_length.ensures.is c.in_ok-section_length-2.ensures.is c.in_ok-section_length-3.ensures.is
 
 pub invariant_of-result : goal.invariant_of-result
 invariant_of-result c =
-    record { few = small c.args.plan.now c.args.version (are_lengths c.args.plan.now c.args.version (sym c.passes.ensures ∙ c.if-not-passes.false) c.in_ok-section_length.ensures.is c.in_ok-section_length-2.ensures.is c.in_ok-section_length-3.ensures.is) }
+    record { few = small c.args.plan.now c.args.version (are_lengths c.args.plan.now c.args.version c.requires c.in_ok-section_length.ensures.is c.in_ok-section_length-2.ensures.is c.in_ok-section_length-3.ensures.is) }

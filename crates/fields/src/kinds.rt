@@ -1,0 +1,40 @@
+// The kinds of fields, by which a name says which of them failed. Those of a section have the standard's indices: the
+// section, the pivot or the piece, the coefficient; of mmr_coef[i][j] its place in the row, 7 (i - 1) + j + 1. A number
+// with a fraction is two fields, its integer part and then its fraction. The columns of the header have no index.
+#[derive(Clone, Copy, Debug, PartialEq, Eq)]
+pub enum Kind {
+    NumPivotsMinus2,
+    PredPivotValue,
+    MappingIdc,
+    PolyOrderMinus1,
+    PolyCoefInt,
+    PolyCoef,
+    NlqOffset,
+    HdrInMaxInt,
+    HdrInMax,
+    SlopeInt,
+    Slope,
+    ThresholdInt,
+    Threshold,
+    LeftOver,
+    MmrOrderMinus1,
+    MmrConstantInt,
+    MmrConstant,
+    MmrCoefInt,
+    MmrCoef,
+    Profile,
+    Level,
+    BlDepth,
+    ElDepth,
+    Depths, // EL_bit_depth_minus8, which is not BL_bit_depth_minus8
+    Denominator,
+    HdrDepth,
+    Disabled,
+    Zero7,
+    Columns,
+    Pairs,
+    Brightest,
+    Zero14,
+    Darkest,
+    Zero20,
+}
