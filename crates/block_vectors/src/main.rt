@@ -6,10 +6,16 @@
 // (1 byte), each an offset (2 bytes) and the new byte.
 #![tactic(auto)]
 
+ghost use Rattle.std.specs.Prelude.{◌≤◌};
+
 use block::Reading;
+use std::io::Read;
 use std::{fmt, io};
+use streams::BLOCK_ROOM;
 use streams::places::{PLACES, Place};
-use streams::{BLOCK_ROOM, answer_all, malformed};
+
+// A stream has at most so many bytes.
+const STREAM_ROOM: usize = 262144;
 
 // What is said of a reading.
 #[derive(Clone, Copy)]
@@ -35,65 +41,81 @@ impl fmt::Display for Said<'_> {
     }
 }
 
-fn pair(high: u8, low: u8) -> usize {
+fn pair(high: u8, low: u8) -> usize
+    ensures { result ≤ 65535 }
+{
     usize::from(u16::from_be_bytes([high, low]))
 }
 
-// A block with its length before it, and what follows it.
-fn split_block(stream: &[u8]) -> Option<(&[u8], &[u8])> {
-    let (length, rest) = stream.split_first_chunk::<2>()?;
-    let [high, low] = *length;
-    rest.split_at_checked(pair(high, low))
+// The length of the block that comes first. Bytes that the stream does not have are 0.
+fn block_length(stream: &[u8]) -> usize
+    ensures { result ≤ 65535 }
+{
+    match stream {
+        [high, low, ..] => pair(*high, *low),
+        [high] => pair(*high, 0),
+        [] => 0,
+    }
 }
 
-// What follows so many blocks.
-fn skip_blocks(stream: &[u8], count: u8) -> Option<&[u8]> {
+// The block that comes first, as far as there is room for it. Bytes that the stream does not have are 0.
+fn first_block(stream: &[u8]) -> [u8; BLOCK_ROOM] {
+    let mut block = [0; BLOCK_ROOM];
+    let bytes = stream.iter().skip(2).take(block_length(stream));
+    for (place, byte) in block.iter_mut().zip(bytes) {
+        *place = *byte;
+    }
+    block
+}
+
+// What follows so many blocks, each with its length before it.
+fn skip_blocks(stream: &[u8], count: u8) -> &[u8] {
     let mut rest = stream;
     for _ in 0..count {
-        (_, rest) = split_block(rest)?;
+        rest = rest.get(2 + block_length(rest)..).unwrap_or_default();
     }
-    Some(rest)
+    rest
 }
 
-// The base block after the edits.
-fn edited(base: &[u8], edits: &[u8]) -> Option<[u8; BLOCK_ROOM]> {
-    let mut block = [0; BLOCK_ROOM];
-    block.get_mut(..base.len())?.copy_from_slice(base);
+// The block after the edits, of which those behind its room are left out.
+fn edited(mut block: [u8; BLOCK_ROOM], edits: &[u8]) -> [u8; BLOCK_ROOM] {
     let (edits, _) = edits.as_chunks::<3>();
     for edit in edits {
         let [high, low, byte] = *edit;
-        *block.get_mut(pair(high, low))? = byte;
+        if let Some(place) = block.get_mut(pair(high, low)) {
+            *place = byte;
+        }
     }
-    Some(block)
+    block
 }
 
-// Reads the block of the first of the cases, and gives what follows it.
-fn read_next<'a>(blocks: &[u8], cases: &'a [u8]) -> Option<(Reading, &'a [u8])> {
+// Reads the block of the first of the cases, where it has the part that is asked for, and gives what follows the case; none where
+// the stream has no whole case more.
+fn read_next<'a>(blocks: &[u8], cases: &'a [u8]) -> Option<(Option<Reading>, &'a [u8])> {
     let (head, rest) = cases.split_first_chunk::<6>()?;
     let [base, from_high, from_low, to_high, to_low, count] = *head;
     let (edits, rest) = rest.split_at_checked(3 * usize::from(count))?;
-    let (base, _) = split_block(skip_blocks(blocks, base)?)?;
-    let block = edited(base, edits)?;
-    let part = block.get(pair(from_high, from_low)..pair(to_high, to_low))?;
-    Some((block::read(part), rest))
+    let block = edited(first_block(skip_blocks(blocks, base)), edits);
+    let part = block.get(pair(from_high, from_low)..pair(to_high, to_low));
+    Some((part.map(block::read), rest))
 }
 
-// The base blocks of a stream, and its cases.
-fn split_stream(stream: &[u8]) -> Option<(&[u8], &[u8])> {
-    let (count, blocks) = stream.split_first()?;
-    Some((blocks, skip_blocks(blocks, *count)?))
-}
-
-fn main(rt: HostRuntime) -> io::Result<()> {
-    let mut room = [0; 262144];
-    let length = io::copy(&mut rt.stdin(), &mut room.as_mut_slice())?;
-    let stream = room.get(..length as usize).unwrap_or_default();
-    let Some((blocks, mut cases)) = split_stream(stream) else {
-        return Ok(());
+fn main(rt: HostRuntime) {
+    let mut room = [0; STREAM_ROOM];
+    let mut free = room.as_mut_slice();
+    let _ = io::copy(&mut rt.stdin().take(STREAM_ROOM as u64), &mut free);
+    let length = STREAM_ROOM.saturating_sub(free.len());
+    let Some((count, blocks)) = room[..length].split_first() else {
+        return;
     };
-    answer_all(&rt, |rt| {
-        let (reading, rest) = read_next(blocks, cases).ok_or_else(malformed)?;
+    let mut cases = skip_blocks(blocks, *count);
+    for _ in 0..length {
+        let Some((reading, rest)) = read_next(blocks, cases) else {
+            return;
+        };
+        if let Some(reading) = reading {
+            let _ = println!(rt; "{}", Said(&reading));
+        }
         cases = rest;
-        println!(rt; "{}", Said(&reading))
-    })
+    }
 }

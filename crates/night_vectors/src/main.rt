@@ -4,22 +4,21 @@
 
 use jobs::{Answer, compose_job, open_picture};
 use plan::Plan;
-use std::io;
 use streams::nights::{Job, Picture, Progress, Runs, next_choice};
-use streams::{answer_all, next_block, next_count, next_ticket};
+use streams::{answer_all, next_count, next_ticket};
 
-fn open_next(rt: &HostRuntime, plan: Plan, picture: &mut Picture) -> io::Result<()> {
-    let ticket = next_ticket(rt)?;
-    let plan = next_choice(rt, plan)?;
+fn open_next(rt: &HostRuntime, plan: Plan, picture: &mut Picture) {
+    let ticket = next_ticket(rt);
+    let plan = next_choice(rt, plan);
     let (_, marks) = picture.lend();
-    match open_picture(plan, ticket, marks) {
+    let _ = match open_picture(plan, ticket, marks) {
         Ok(ticket) => println!(rt; "open {ticket}"),
         Err(refusal) => println!(rt; "refused {}", refusal.number()),
-    }
+    };
 }
 
-fn send_next(rt: &HostRuntime, plan: Plan, runs: &Runs, picture: &mut Picture) -> io::Result<()> {
-    let job = Job::next(rt, plan, runs)?;
+fn send_next(rt: &HostRuntime, plan: Plan, runs: &Runs, picture: &mut Picture) {
+    let job = Job::next(rt, plan, runs);
     let (output, marks) = picture.lend();
     let answer = compose_job(
         job.plan,
@@ -32,28 +31,28 @@ fn send_next(rt: &HostRuntime, plan: Plan, runs: &Runs, picture: &mut Picture) -
         output,
         marks,
     );
-    match answer {
+    let _ = match answer {
         Answer::Done(left, base_only) => println!(rt; "{}", Progress { left, base_only }),
         Answer::Refused(number) => println!(rt; "refused {number}"),
-    }
+    };
 }
 
-// Opens the picture, sends the jobs, and prints what is left.
-fn answer_night(rt: &HostRuntime) -> io::Result<()> {
-    let plan = next_block(rt)?.plan;
-    let runs = Runs::next(rt)?;
-    let mut picture = Picture::next(rt)?;
-    open_next(rt, plan, &mut picture)?;
-    for _ in 0..next_count(rt)? {
-        send_next(rt, plan, &runs, &mut picture)?;
+// Opens the picture, sends the jobs, and prints what is left. A night whose picture is too long ends there.
+fn answer_night(rt: &HostRuntime, plan: Plan) {
+    let runs = Runs::next(rt);
+    let Some(mut picture) = Picture::next(rt) else {
+        return;
+    };
+    open_next(rt, plan, &mut picture);
+    for _ in 0..next_count(rt) {
+        send_next(rt, plan, &runs, &mut picture);
     }
-    println!(rt; "{picture}")?;
+    let _ = println!(rt; "{picture}");
     if !picture.is_kept() {
-        println!(rt; "a guard was touched")?;
+        let _ = println!(rt; "a guard was touched");
     }
-    Ok(())
 }
 
-fn main(rt: HostRuntime) -> io::Result<()> {
-    answer_all(&rt, answer_night)
+fn main(rt: HostRuntime) {
+    answer_all(&rt, answer_night);
 }

@@ -5,99 +5,108 @@ pub mod guards; // what is lent, between guards that nobody may touch
 pub mod nights; // pictures that are composed by jobs
 pub mod places; // a plan's places by their numbers
 
-ghost use Rattle.std.specs.Prelude.{◌≡◌, ◌≢◌, ◌≤◌, IfOk, IfErr};
-ghost use Rattle.std.specs.IoError.{error_kind};
+ghost use Rattle.std.specs.Prelude.{◌≡◌, ◌<◌, ◌≤◌};
 ghost use Rattle.runs.specs.Runs.{painted};
 ghost use Rattle.block.specs.Facts.{Sound};
 ghost use Rattle.streams.specs.inner.Untouched.{everywhere, untouched};
 
 use block::Reading;
-use places::Place;
+use places::{PLACES, Place};
 use plan::Plan;
-use std::io::{Error, ErrorKind, Read};
-use std::{fmt, io};
+use std::fmt;
+use std::io::Read;
 
 // A block of the vectors has at most so many bytes.
 pub const BLOCK_ROOM: usize = 8192;
 
-// The error of a stream that is not in its format.
-pub fn malformed() -> Error
-    ensures { error_kind result ≡ ErrorKind.InvalidData }
-{
-    Error::from(ErrorKind::InvalidData)
-}
+// A stream has at most so many groups.
+const GROUPS: usize = 100000;
 
-// Has case after case answered. A stream ends where its bytes end, and where it is malformed.
-pub fn answer_all<F: FnMut(&HostRuntime) -> io::Result<()>>(
-    rt: &HostRuntime,
-    mut answer_next: F,
-) -> io::Result<()>
-    requires { F.IsAlwaysCallable answer_next }
-    ensures { IfErr result (λ e. (error_kind e ≢ ErrorKind.UnexpectedEof) × (error_kind e ≢ ErrorKind.InvalidData)) }
+// Has group after group answered, each of which begins with a block. A stream ends where it has no whole length of a block more.
+pub fn answer_all<F: FnMut(&HostRuntime, Plan)>(rt: &HostRuntime, mut answer: F)
+    requires { F.IsAlwaysCallable answer }
 {
-    for _ in 0..u64::MAX {
-        if let Err(error) = answer_next(rt) {
-            return match error.kind() {
-                ErrorKind::UnexpectedEof | ErrorKind::InvalidData => Ok(()),
-                _ => Err(error),
-            };
-        }
+    for _ in 0..GROUPS {
+        let Some(length) = first_number(rt) else {
+            return;
+        };
+        answer(rt, next_block(rt, usize::from(length)).plan);
     }
-    Ok(())
 }
 
-fn next_bytes<const N: usize>(rt: &HostRuntime) -> io::Result<[u8; N]> {
+// The number of 16 bits that a group begins with; none where the stream ends before it is whole.
+fn first_number(rt: &HostRuntime) -> Option<u16> {
+    let mut bytes = [0; 2];
+    rt.stdin().read_exact(&mut bytes).ok()?;
+    Some(u16::from_be_bytes(bytes))
+}
+
+// The bytes that come next. Those that the stream does not have are 0.
+fn next_bytes<const N: usize>(rt: &HostRuntime) -> [u8; N] {
     let mut bytes = [0; N];
-    rt.stdin().read_exact(&mut bytes)?;
-    Ok(bytes)
+    let _ = rt.stdin().read_exact(&mut bytes);
+    bytes
 }
 
 // The numbers of a stream stand with the high byte first.
-pub fn next_byte(rt: &HostRuntime) -> io::Result<u8> {
-    Ok(u8::from_be_bytes(next_bytes(rt)?))
+pub fn next_byte(rt: &HostRuntime) -> u8 {
+    u8::from_be_bytes(next_bytes(rt))
 }
 
-pub fn next_number(rt: &HostRuntime) -> io::Result<u16> {
-    Ok(u16::from_be_bytes(next_bytes(rt)?))
+pub fn next_number(rt: &HostRuntime) -> u16 {
+    u16::from_be_bytes(next_bytes(rt))
 }
 
-pub fn next_ticket(rt: &HostRuntime) -> io::Result<u32> {
-    Ok(u32::from_be_bytes(next_bytes(rt)?))
+pub fn next_ticket(rt: &HostRuntime) -> u32 {
+    u32::from_be_bytes(next_bytes(rt))
 }
 
-fn next_value(rt: &HostRuntime) -> io::Result<u64> {
-    Ok(u64::from_be_bytes(next_bytes(rt)?))
+fn next_value(rt: &HostRuntime) -> u64 {
+    u64::from_be_bytes(next_bytes(rt))
 }
 
 // A number of 16 bits that counts, or says where something begins.
-pub fn next_count(rt: &HostRuntime) -> io::Result<usize>
-    ensures { IfOk result (λ n. n ≤ 65535) }
+pub fn next_count(rt: &HostRuntime) -> usize
+    ensures { result < 65536 }
 {
-    Ok(usize::from(next_number(rt)?))
+    usize::from(next_number(rt))
 }
 
-// A block, read, with its length before it.
-pub fn next_block(rt: &HostRuntime) -> io::Result<Reading>
-    ensures { IfOk result (λ reading. Sound reading) }
+// A block of so many bytes, read. One that is too long counts as empty, and its bytes are left.
+pub fn next_block(rt: &HostRuntime, length: usize) -> Reading
+    ensures { Sound result }
 {
     let mut room = [0; BLOCK_ROOM];
-    let length = next_count(rt)?;
-    let bytes = room.get_mut(..length).ok_or_else(malformed)?;
-    rt.stdin().read_exact(bytes)?;
-    Ok(block::read(bytes))
+    let bytes = room.get_mut(..length).unwrap_or_default();
+    let _ = rt.stdin().read_exact(bytes);
+    block::read(bytes)
 }
 
-// The plan with the changes that come next, after their number: each a place and its new value, made in order.
-pub fn next_plan(rt: &HostRuntime, mut plan: Plan) -> io::Result<Plan> {
-    for _ in 0..next_byte(rt)? {
-        let number = next_count(rt)?;
-        let value = next_value(rt)?;
-        let Some(place) = Place::of(&mut plan, number) else {
-            return Err(malformed());
-        };
-        place.put(value);
+// The plan with the changes that come next, after their number: each a place and its new value, made in order. A number past
+// the last place stands for the last.
+pub fn next_plan(rt: &HostRuntime, mut plan: Plan) -> Plan {
+    for _ in 0..next_byte(rt) {
+        let number = next_count(rt).min(PLACES - 1);
+        let value = next_value(rt);
+        if let Some(place) = Place::of(&mut plan, number) {
+            place.put(value);
+        }
     }
-    Ok(plan)
+    plan
+}
+
+// A run of samples with its length before it; answers the length, and leaves out what the run has no room for.
+fn next_run(rt: &HostRuntime, run: &mut [u16]) -> usize
+    ensures { result < 65536 }
+{
+    let length = next_count(rt);
+    for i in 0..length {
+        let sample = next_number(rt);
+        if let Some(place) = run.get_mut(i) {
+            *place = sample;
+        }
+    }
+    length
 }
 
 // A run of at most ROOM samples.
@@ -109,22 +118,14 @@ pub struct Run<const ROOM: usize> {
 }
 
 impl<const ROOM: usize> Run<ROOM> {
-    pub fn empty() -> Run<ROOM> {
-        Run {
-            room: [0; ROOM],
-            length: 0,
+    // A run with its length before it; none where it is longer, but it is passed over.
+    pub fn next(rt: &HostRuntime) -> Option<Run<ROOM>> {
+        let mut room = [0; ROOM];
+        let length = next_run(rt, &mut room);
+        if ROOM < length {
+            return None;
         }
-    }
-
-    // A run with its length before it.
-    pub fn next(rt: &HostRuntime) -> io::Result<Run<ROOM>> {
-        let mut run = Run::empty();
-        let length = next_count(rt)?;
-        for sample in run.room.get_mut(..length).ok_or_else(malformed)? {
-            *sample = next_number(rt)?;
-        }
-        run.length = length;
-        Ok(run)
+        Some(Run { room, length })
     }
 
     pub fn samples(&self) -> &[u16] {

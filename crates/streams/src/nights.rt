@@ -1,42 +1,52 @@
 // Pictures that are composed by jobs: the runs and the plan that a job refers to, what it is lent, and what is said of it.
 use crate::guards::{GUARDS, Guarded, MARK, SAMPLE};
-use crate::{Run, Spaced, malformed, next_byte, next_count, next_ticket, untouch};
+use crate::{Spaced, next_byte, next_count, next_run, next_ticket, untouch};
 use plan::Plan;
+use std::fmt;
 use std::io::Read;
-use std::{fmt, io};
 
-// The runs of a stream, to which jobs refer by their places. None has more than 96 samples.
+// A run has at most so many samples.
+const RUN_ROOM: usize = 96;
+
+const RUNS: usize = 16;
+
+// The runs of a stream, to which jobs refer by their places. One that is too long goes on in the rooms behind its own: so the rooms lie
+// in one array, and the lengths apart.
 #[derive(Clone, Copy)]
 pub struct Runs {
-    runs: [Run<96>; 16],
+    rooms: [u16; RUNS * RUN_ROOM],
+    lengths: [usize; RUNS],
 }
 
 impl Runs {
-    pub fn next(rt: &HostRuntime) -> io::Result<Runs> {
-        let mut runs = [Run::empty(); 16];
-        let count = usize::from(next_byte(rt)?);
-        for run in runs.get_mut(..count).ok_or_else(malformed)? {
-            *run = Run::next(rt)?;
+    pub fn next(rt: &HostRuntime) -> Runs {
+        let mut rooms = [0; RUNS * RUN_ROOM];
+        let mut lengths = [0; RUNS];
+        let count = usize::from(next_byte(rt));
+        let all = rooms.chunks_mut(RUN_ROOM).zip(&mut lengths);
+        for (room, length) in all.take(count) {
+            *length = next_run(rt, room);
         }
-        Ok(Runs { runs })
+        Runs { rooms, lengths }
     }
 
     // The run that the stream refers to next. Where there is none, it has no sample.
-    pub fn next_of(&self, rt: &HostRuntime) -> io::Result<&[u16]> {
-        let place = usize::from(next_byte(rt)?);
-        Ok(match self.runs.get(place) {
-            Some(run) => run.samples(),
-            None => &[],
-        })
+    pub fn next_of(&self, rt: &HostRuntime) -> &[u16] {
+        let place = usize::from(next_byte(rt));
+        self.run(place).unwrap_or_default()
+    }
+
+    fn run(&self, place: usize) -> Option<&[u16]> {
+        let length = *self.lengths.get(place)?;
+        self.rooms.get(RUN_ROOM * place..)?.get(..length)
     }
 }
 
-// The plan that is chosen next: the block's, or the plan of zeros.
-pub fn next_choice(rt: &HostRuntime, plan: Plan) -> io::Result<Plan> {
-    match next_byte(rt)? {
-        0 => Ok(plan),
-        1 => Ok(plan::empty()),
-        _ => Err(malformed()),
+// The plan that is chosen next: the block's, or the plan of zeros where the choice is 1.
+pub fn next_choice(rt: &HostRuntime, plan: Plan) -> Plan {
+    match next_byte(rt) {
+        1 => plan::empty(),
+        _ => plan,
     }
 }
 
@@ -53,16 +63,16 @@ pub struct Job<'a> {
 }
 
 impl<'a> Job<'a> {
-    pub fn next(rt: &HostRuntime, plan: Plan, runs: &'a Runs) -> io::Result<Job<'a>> {
-        Ok(Job {
-            plan: next_choice(rt, plan)?,
-            open_ticket: next_ticket(rt)?,
-            ticket: next_ticket(rt)?,
-            first: next_count(rt)?,
-            count: next_count(rt)?,
-            base: runs.next_of(rt)?,
-            enhancement: runs.next_of(rt)?,
-        })
+    pub fn next(rt: &HostRuntime, plan: Plan, runs: &'a Runs) -> Job<'a> {
+        Job {
+            plan: next_choice(rt, plan),
+            open_ticket: next_ticket(rt),
+            ticket: next_ticket(rt),
+            first: next_count(rt),
+            count: next_count(rt),
+            base: runs.next_of(rt),
+            enhancement: runs.next_of(rt),
+        }
     }
 }
 
@@ -79,13 +89,17 @@ pub struct Picture {
 }
 
 impl Picture {
-    // The marks as the stream has them, and an output run that nobody wrote.
-    pub fn next(rt: &HostRuntime) -> io::Result<Picture> {
-        let mut marks = Guarded::new(MARK, next_count(rt)?).ok_or_else(malformed)?;
-        rt.stdin().read_exact(marks.lend())?;
-        let mut output = Guarded::new(SAMPLE, next_count(rt)?).ok_or_else(malformed)?;
+    // The marks as the stream has them, none where they are too many, and an output run that nobody wrote; no picture where that
+    // is too long.
+    pub fn next(rt: &HostRuntime) -> Option<Picture> {
+        let mut marks = match Guarded::new(MARK, next_count(rt)) {
+            Some(marks) => marks,
+            None => Guarded::new(MARK, 0)?,
+        };
+        let _ = rt.stdin().read_exact(marks.lend());
+        let mut output = Guarded::new(SAMPLE, next_count(rt))?;
         untouch(output.lend(), 60000);
-        Ok(Picture { output, marks })
+        Some(Picture { output, marks })
     }
 
     pub fn lend(&mut self) -> (&mut [u16], &mut [u8]) {

@@ -6,12 +6,10 @@
 use filling::fill_table;
 use jobs::{Answer, compose_job, open_picture};
 use plan::Plan;
-use std::io;
 use streams::guards::{GUARDS, Guarded, SAMPLE};
 use streams::nights::{Job, Picture, Progress, Runs, next_choice};
 use streams::{
-    Spaced, answer_all, malformed, next_block, next_byte, next_count, next_number, next_ticket,
-    untouch,
+    Spaced, answer_all, next_block, next_byte, next_count, next_number, next_ticket, untouch,
 };
 use table_jobs::compose_table_job;
 
@@ -30,27 +28,24 @@ enum Step {
     Block,
 }
 
-impl TryFrom<u8> for Step {
-    type Error = io::Error;
-
-    fn try_from(kind: u8) -> io::Result<Step> {
+impl From<u8> for Step {
+    fn from(kind: u8) -> Step {
         match kind {
-            0 => Ok(Step::Open),
-            1 => Ok(Step::Job),
-            2 => Ok(Step::TableJob),
-            3 => Ok(Step::Fill),
-            4 => Ok(Step::Damage),
-            5 => Ok(Step::Show),
-            6 => Ok(Step::Block),
-            _ => Err(malformed()),
+            0 => Step::Open,
+            1 => Step::Job,
+            2 => Step::TableJob,
+            3 => Step::Fill,
+            4 => Step::Damage,
+            5 => Step::Show,
+            _ => Step::Block,
         }
     }
 }
 
-// The picture that the stream names next.
-fn next_of<'a>(rt: &HostRuntime, pictures: &'a mut [Picture; 2]) -> io::Result<&'a mut Picture> {
-    let place = usize::from(next_byte(rt)?);
-    pictures.get_mut(place).ok_or_else(malformed)
+// The picture that the stream names next: the first by 0, the second by any other number.
+fn next_of<'a>(rt: &HostRuntime, pictures: &'a mut [Picture; 2]) -> &'a mut Picture {
+    let place = usize::from(next_byte(rt).min(1));
+    &mut pictures[place]
 }
 
 // What the steps of a case work on.
@@ -63,34 +58,35 @@ struct Case {
 }
 
 impl Case {
-    fn next(rt: &HostRuntime) -> io::Result<Case> {
-        let plan = next_block(rt)?.plan;
-        let runs = Runs::next(rt)?;
-        let mut table = Guarded::new(SAMPLE, next_count(rt)?).ok_or_else(malformed)?;
+    // The case of a plan; none where its table or a picture is too long.
+    fn next(rt: &HostRuntime, plan: Plan) -> Option<Case> {
+        let runs = Runs::next(rt);
+        let table = Guarded::new(SAMPLE, next_count(rt));
+        let pictures = (Picture::next(rt), Picture::next(rt));
+        let mut table = table?;
         untouch(table.lend(), 50000);
-        let pictures = [Picture::next(rt)?, Picture::next(rt)?];
-        Ok(Case {
+        Some(Case {
             plan,
             runs,
             table,
-            pictures,
+            pictures: [pictures.0?, pictures.1?],
         })
     }
 
-    fn open(&mut self, rt: &HostRuntime) -> io::Result<()> {
-        let picture = next_of(rt, &mut self.pictures)?;
-        let plan = next_choice(rt, self.plan)?;
-        let ticket = next_ticket(rt)?;
+    fn open(&mut self, rt: &HostRuntime) {
+        let picture = next_of(rt, &mut self.pictures);
+        let plan = next_choice(rt, self.plan);
+        let ticket = next_ticket(rt);
         let (_, marks) = picture.lend();
-        match open_picture(plan, ticket, marks) {
+        let _ = match open_picture(plan, ticket, marks) {
             Ok(ticket) => println!(rt; "open {ticket}"),
             Err(refusal) => println!(rt; "refused {}", refusal.number()),
-        }
+        };
     }
 
-    fn send_job(&mut self, rt: &HostRuntime) -> io::Result<()> {
-        let picture = next_of(rt, &mut self.pictures)?;
-        let job = Job::next(rt, self.plan, &self.runs)?;
+    fn send_job(&mut self, rt: &HostRuntime) {
+        let picture = next_of(rt, &mut self.pictures);
+        let job = Job::next(rt, self.plan, &self.runs);
         let (output, marks) = picture.lend();
         let answer = compose_job(
             job.plan,
@@ -103,15 +99,15 @@ impl Case {
             output,
             marks,
         );
-        match answer {
+        let _ = match answer {
             Answer::Done(left, base_only) => println!(rt; "{}", Progress { left, base_only }),
             Answer::Refused(number) => println!(rt; "refused {number}"),
-        }
+        };
     }
 
-    fn send_table_job(&mut self, rt: &HostRuntime) -> io::Result<()> {
-        let picture = next_of(rt, &mut self.pictures)?;
-        let job = Job::next(rt, self.plan, &self.runs)?;
+    fn send_table_job(&mut self, rt: &HostRuntime) {
+        let picture = next_of(rt, &mut self.pictures);
+        let job = Job::next(rt, self.plan, &self.runs);
         let (output, marks) = picture.lend();
         let answer = compose_table_job(
             job.plan,
@@ -125,45 +121,47 @@ impl Case {
             output,
             marks,
         );
-        match answer {
+        let _ = match answer {
             Answer::Done(left, base_only) => println!(rt; "{}", Progress { left, base_only }),
             Answer::Refused(number) => println!(rt; "refused {number}"),
-        }
+        };
     }
 
-    fn fill(&mut self, rt: &HostRuntime) -> io::Result<()> {
-        let plan = next_choice(rt, self.plan)?;
-        match fill_table(plan, self.table.lend()) {
+    fn fill(&mut self, rt: &HostRuntime) {
+        let plan = next_choice(rt, self.plan);
+        let _ = match fill_table(plan, self.table.lend()) {
             Ok(()) => println!(rt; "filled"),
             Err(refusal) => println!(rt; "refused {}", refusal.number()),
+        };
+    }
+
+    // One value everywhere in a part of the table. Where the table has no such part, no value follows, and nothing is said.
+    fn damage(&mut self, rt: &HostRuntime) {
+        let from = next_count(rt);
+        let to = next_count(rt);
+        if let Some(part) = self.table.lend().get_mut(from..to) {
+            part.fill(next_number(rt));
+            let _ = println!(rt; "damaged");
         }
     }
 
-    // One value everywhere in a part of the table.
-    fn damage(&mut self, rt: &HostRuntime) -> io::Result<()> {
-        let from = next_count(rt)?;
-        let to = next_count(rt)?;
-        let value = next_number(rt)?;
-        let table = self.table.lend();
-        table.get_mut(from..to).ok_or_else(malformed)?.fill(value);
-        println!(rt; "damaged")
-    }
-
-    fn show(&self, rt: &HostRuntime) -> io::Result<()> {
-        let from = next_count(rt)?;
-        let to = next_count(rt)?;
-        let part = self.table.lent().get(from..to).ok_or_else(malformed)?;
-        println!(rt; "{}", Spaced(part))
+    fn show(&self, rt: &HostRuntime) {
+        let from = next_count(rt);
+        let to = next_count(rt);
+        if let Some(part) = self.table.lent().get(from..to) {
+            let _ = println!(rt; "{}", Spaced(part));
+        }
     }
 
     // Another plan is the block's from here on.
-    fn read_block(&mut self, rt: &HostRuntime) -> io::Result<()> {
-        self.plan = next_block(rt)?.plan;
-        println!(rt; "read")
+    fn read_block(&mut self, rt: &HostRuntime) {
+        let length = next_count(rt);
+        self.plan = next_block(rt, length).plan;
+        let _ = println!(rt; "read");
     }
 
-    fn step(&mut self, rt: &HostRuntime) -> io::Result<()> {
-        match Step::try_from(next_byte(rt)?)? {
+    fn step(&mut self, rt: &HostRuntime) {
+        match Step::from(next_byte(rt)) {
             Step::Open => self.open(rt),
             Step::Job => self.send_job(rt),
             Step::TableJob => self.send_table_job(rt),
@@ -179,20 +177,21 @@ impl Case {
     }
 }
 
-fn answer_case(rt: &HostRuntime) -> io::Result<()> {
-    let mut case = Case::next(rt)?;
-    for _ in 0..next_count(rt)? {
-        case.step(rt)?;
+fn answer_case(rt: &HostRuntime, plan: Plan) {
+    let Some(mut case) = Case::next(rt, plan) else {
+        return;
+    };
+    for _ in 0..next_count(rt) {
+        case.step(rt);
     }
     for picture in &case.pictures {
-        println!(rt; "{picture}")?;
+        let _ = println!(rt; "{picture}");
     }
     if !case.is_kept() {
-        println!(rt; "a guard was touched")?;
+        let _ = println!(rt; "a guard was touched");
     }
-    Ok(())
 }
 
-fn main(rt: HostRuntime) -> io::Result<()> {
-    answer_all(&rt, answer_case)
+fn main(rt: HostRuntime) {
+    answer_all(&rt, answer_case);
 }
