@@ -13,24 +13,6 @@ pub struct Distance {
     pub far: u64,
 }
 
-impl From<i64> for Distance {
-    ghost from_gives = { λ z r. from_distance r.below r.far ≡ z };
-
-    fn from(z: i64) -> Distance {
-        if z < 0 {
-            Distance {
-                below: true,
-                far: (-1 - z) as u64,
-            }
-        } else {
-            Distance {
-                below: false,
-                far: z as u64,
-            }
-        }
-    }
-}
-
 impl From<u64> for Distance {
     ghost from_gives = { λ n r. from_distance r.below r.far ≡ pos n };
 
@@ -95,8 +77,8 @@ fn put_integer(out: &mut [u8], at: usize, long: bool, v: u32)
     }
 }
 
-// Where d is above 32 its fraction has more than four bytes, and nothing is written.
-fn put_number(out: &mut [u8], at: usize, long: bool, d: u8, z: Distance)
+// Puts a number with a fraction of d bits. Where d is above 32 its fraction has more than four bytes, and nothing is written.
+pub fn number(out: &mut [u8], at: usize, long: bool, d: u8, z: Distance)
     ensures { out.new ≡ put_number out.old at long d (from_distance z.below z.far) }
 {
     if 32 < d {
@@ -110,32 +92,15 @@ fn put_number(out: &mut [u8], at: usize, long: bool, d: u8, z: Distance)
     put(out, at + w, fraction(d, z).to_be_bytes());
 }
 
-// Puts a number with a fraction of d bits, or where d is above 32 nothing. Either sign has a call of its own: with one for both
-// the sign is worked into each byte, and a row of coefficients takes some 7 % more time.
-pub fn number(out: &mut [u8], at: usize, long: bool, d: u8, z: Distance)
-    ensures { out.new ≡ put_number out.old at long d (from_distance z.below z.far) }
+// Puts a number of either sign. Each sign has a call of its own: with From<i64> for Distance and one call the sign is worked
+// into each byte, and the longest block takes some 30 % more time.
+pub fn signed(out: &mut [u8], at: usize, long: bool, d: u8, z: i64)
+    ensures { out.new ≡ put_number out.old at long d z }
 {
-    if z.below {
-        put_number(
-            out,
-            at,
-            long,
-            d,
-            Distance {
-                below: true,
-                far: z.far,
-            },
-        );
+    if z < 0 {
+        let far = (-1 - z) as u64;
+        number(out, at, long, d, Distance { below: true, far });
     } else {
-        put_number(
-            out,
-            at,
-            long,
-            d,
-            Distance {
-                below: false,
-                far: z.far,
-            },
-        );
+        number(out, at, long, d, (z as u64).into());
     }
 }

@@ -6,7 +6,7 @@ mod fixed; // numbers with a fraction
 ghost use Rattle.std.specs.Prelude.{◌≡◌};
 ghost use Rattle.pen.specs.inner.Putting.{put_at};
 
-pub use fixed::{Distance, integer_bytes, number};
+pub use fixed::{Distance, integer_bytes, number, signed};
 
 // Puts bytes from `at` on.
 pub fn put<const N: usize>(out: &mut [u8], at: usize, bytes: [u8; N])

@@ -4,7 +4,7 @@ ghost use Rattle.pen.specs.inner.Putting.{Inked};
 ghost use Rattle.section_writer.specs.Section.{piece_bytes};
 ghost use Rattle.section_writer.specs.inner.Writing.{row_bytes};
 
-use pen::{integer_bytes, number, put};
+use pen::{integer_bytes, put, signed};
 use plan::Piece;
 use plan::methods::{MMR, coefficients_used};
 
@@ -18,7 +18,7 @@ fn coefficients(out: &mut [u8], at: usize, d: u8, long: bool, row: &[i64], count
     let mut next = at;
     for i in 0..count {
         let z = row.get(i).copied().unwrap_or(0);
-        number(out, next, long, d, z.into());
+        signed(out, next, long, d, z);
         next += size;
     }
     next

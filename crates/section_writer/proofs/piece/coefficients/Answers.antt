@@ -24,4 +24,4 @@ overflow_add-next c =
 pub loop-i-preserved : goal.loop-i-preserved
 loop-i-preserved c =
     stepped c.args.long c.args.d c.args.row.now c.integer_bytes-size.ensures.0 c.loop-i.invariant c.loop-i-test.true c.requires.d_bound
-    (let z : c.unwrap_or-z.result ≡ get_or c.args.row.now c.loop-i.i (pos 0) = search rules in rw (c.into.ensures, back c.unwrap_or-z.type_inv, z) at c.number.ensures)
+    (let z : c.unwrap_or-z.result ≡ get_or c.args.row.now c.loop-i.i (pos 0) = search rules in rw (back c.unwrap_or-z.type_inv, z) at c.signed.ensures)

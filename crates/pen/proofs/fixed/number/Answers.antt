@@ -1,10 +1,10 @@
 use Rattle.std.proofs.Common.{arith}
 use Rattle.pen.specs.inner.Putting.{from_distance}
 use Rattle.pen.proofs.Putting.{number_none, number_put, four_bytes}
-use Rattle.pen.proofs.fixed.put_number.Goals.{then-out-w-via-then-out-w, then-out-w-via-else-out-w+then-out-w-2}
-use Rattle.pen.proofs.fixed.put_number.Goals as goal
+use Rattle.pen.proofs.fixed.number.Goals.{then-out-w-via-then-out-w, then-out-w-via-else-out-w+then-out-w-2}
+use Rattle.pen.proofs.fixed.number.Goals as goal
 
--- `put_number` meets its contract. Assumes nothing.
+-- `number` meets its contract. Assumes nothing.
 pub returns-then-out-w : goal.returns-then-out-w
 returns-then-out-w c =
     number_none _ c.args.at c.args.long c.args.d _ (omega arith) c.integer_bytes-w.ensures.0
