@@ -5,13 +5,13 @@
 pub mod kinds; // the kinds of fields
 pub mod numbers; // big-endian numbers that stand at a place
 
-ghost use Rattle.std.specs.Prelude.{true, ◌≡◌, ◌<◌, ◌≤◌, leb, ltb, IfOk};
+ghost use Rattle.std.specs.Prelude.{Bool, true, ℕ, ◌≡◌, ◌<◌, ◌≤◌, leb, ltb, IfOk};
 ghost use Rattle.refusals.specs.Refusals.{number_of};
-ghost use Rattle.fields.specs.Fields.{field, ended};
+ghost use Rattle.fields.specs.Fields.{wide, field, ended};
 ghost use Rattle.fields.specs.inner.Readers.{as_read};
 
 use kinds::Kind;
-use numbers::{number, width_of};
+use numbers::number;
 use refusals::Refusal;
 
 // Which field: a kind, and as many indices as it has.
@@ -28,6 +28,18 @@ pub enum Width {
     One,
     Two,
     Four,
+}
+
+impl Width {
+    fn bytes(self) -> usize
+        ensures { (result ≡ wide self) × (result ≤ 4) }
+    {
+        match self {
+            Width::One => 1,
+            Width::Two => 2,
+            Width::Four => 4,
+        }
+    }
 }
 
 // What is asked of a field: its name, its width, and the rule where it runs past the bytes.
@@ -49,7 +61,7 @@ pub struct Failure {
 pub fn raw(rest: &mut &[u8], a: Ask) -> Result<u64, Failure>
     ensures { as_read result rest.new.now ≡ field a (λ v. true) (λ v. 0) rest.old.now }
 {
-    let w = width_of(a.width);
+    let w = a.width.bytes();
     if rest.len() < w {
         return Err(Failure {
             refusal: a.past,
@@ -61,17 +73,22 @@ pub fn raw(rest: &mut &[u8], a: Ask) -> Result<u64, Failure>
     Ok(number(bytes))
 }
 
-// A field that is below a limit. This and `at_most` are not one function that is handed the test: the call of a closure
-// needs a `requires`, and what crosses a crate has none.
-pub fn below(rest: &mut &[u8], a: Ask, limit: u64, refusal: Refusal) -> Result<u64, Failure>
-    ensures value { as_read result rest.new.now ≡ field a (λ v. ltb v limit) (λ v. number_of refusal) rest.old.now }
-    ensures small { IfOk result (λ v. v < limit) }
+// A field that fits.
+fn fitting<F: Fn(u64) -> bool>(
+    rest: &mut &[u8],
+    a: Ask,
+    fits: F,
+    refusal: Refusal,
+) -> Result<u64, Failure>
+    requires { F.IsAlwaysCallable fits }
+    ensures value { (test : ℕ → Bool) → ((v : ℕ) (b : Bool) → F.post fits v b → b ≡ test v) → as_read result rest.new.now ≡ field a test (λ v. number_of refusal) rest.old.now }
+    ensures small { IfOk result (λ v. F.post fits v true) }
 {
     let mut after = *rest;
     let v = raw(&mut after, a)?;
-    if v >= limit {
+    if !fits(v) {
         return Err(Failure {
-            refusal: refusal,
+            refusal,
             name: a.name,
         });
     }
@@ -79,21 +96,20 @@ pub fn below(rest: &mut &[u8], a: Ask, limit: u64, refusal: Refusal) -> Result<u
     Ok(v)
 }
 
+// A field that is below a limit.
+pub fn below(rest: &mut &[u8], a: Ask, limit: u64, refusal: Refusal) -> Result<u64, Failure>
+    ensures value { as_read result rest.new.now ≡ field a (λ v. ltb v limit) (λ v. number_of refusal) rest.old.now }
+    ensures small { IfOk result (λ v. v < limit) }
+{
+    fitting(rest, a, |v| v < limit, refusal)
+}
+
 // A field that is at most `top`.
 pub fn at_most(rest: &mut &[u8], a: Ask, top: u64, refusal: Refusal) -> Result<u64, Failure>
     ensures value { as_read result rest.new.now ≡ field a (λ v. leb v top) (λ v. number_of refusal) rest.old.now }
     ensures small { IfOk result (λ v. v ≤ top) }
 {
-    let mut after = *rest;
-    let v = raw(&mut after, a)?;
-    if v > top {
-        return Err(Failure {
-            refusal: refusal,
-            name: a.name,
-        });
-    }
-    *rest = after;
-    Ok(v)
+    fitting(rest, a, |v| v <= top, refusal)
 }
 
 // The end of the bytes: none are left over.

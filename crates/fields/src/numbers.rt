@@ -1,18 +1,6 @@
 // Big-endian numbers: the first byte is the greatest.
 ghost use Rattle.std.specs.Prelude.{◌≡◌, ◌+◌, ◌^◌, ◌<◌, ◌≤◌, length};
-ghost use Rattle.fields.specs.Fields.{wide, number, number_at};
-
-use crate::Width;
-
-pub(crate) fn width_of(w: Width) -> usize
-    ensures { (result ≡ wide w) × (result ≤ 4) }
-{
-    match w {
-        Width::One => 1,
-        Width::Two => 2,
-        Width::Four => 4,
-    }
-}
+ghost use Rattle.fields.specs.Fields.{number, number_at};
 
 pub(crate) fn number(bytes: &[u8]) -> u64
     requires { length bytes.now ≤ 4 }
@@ -25,7 +13,8 @@ pub(crate) fn number(bytes: &[u8]) -> u64
     v
 }
 
-// The number that stands at a place; 0 where its bytes are not all there.
+// The number of w bytes that stands at a place; 0 where they are not all there. `one`, `two` and `four` are this, each as
+// the type of its width.
 fn number_at(s: &[u8], at: usize, w: usize) -> u64
     requires { w ≤ 4 }
     ensures { (result ≡ number_at s.now at w) × (result < 256 ^ w) }

@@ -6,6 +6,7 @@ ghost use Rattle.fields.specs.inner.Readers.{as_read, filled};
 ghost use Rattle.sections.specs.Sections.{coefficient, piece};
 ghost use Rattle.sections.specs.inner.Holding.{held};
 
+use crate::filling::filled;
 use crate::fraction::coefficient;
 use fields::Failure;
 use plan::Piece;
@@ -26,11 +27,7 @@ fn row(
     requires { count ≤ row_places }
     ensures { as_read result rest.new.now ≡ filled row_places (pos 0) count (coefficient h.header k p idc) rest.old.now }
 {
-    let mut row = [0; ROW];
-    for i in 0..count {
-        row[i] = coefficient(rest, h, k, p, idc, i)?;
-    }
-    Ok(row)
+    filled(rest, 0, count, |rest, i| coefficient(rest, h, k, p, idc, i))
 }
 
 fn piece(rest: &mut &[u8], h: FittingHeader, k: usize, p: usize) -> Result<Piece, Failure>
@@ -56,11 +53,7 @@ fn pieces(
         order: 0,
         row: [0; ROW],
     };
-    let mut pieces = [none; PIECES];
-    for p in 0..count {
-        pieces[p] = piece(rest, h, k, p)?;
-    }
-    Ok(pieces)
+    filled(rest, none, count, |rest, p| piece(rest, h, k, p))
 }
 
 // The pieces of a component with num_pivots_minus2 n: those that its section carries, and of version 1 piece n again.

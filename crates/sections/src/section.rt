@@ -4,6 +4,7 @@ ghost use Rattle.plan.specs.Rule7.{pivot_places};
 ghost use Rattle.fields.specs.inner.Readers.{as_read, filled};
 ghost use Rattle.sections.specs.Sections.{pivot, nlq, section};
 
+use crate::filling::filled;
 use crate::fraction::{below_power, unsigned};
 use crate::pieces::held;
 use fields::kinds::Kind;
@@ -14,6 +15,13 @@ use plan::{Component, Nlq};
 use refusals::Refusal;
 use section_fields::asked;
 
+fn pivot(rest: &mut &[u8], h: FittingHeader, k: usize, i: usize) -> Result<u16, Failure>
+    ensures { as_read result rest.new.now ≡ pivot h.header k i rest.old.now }
+{
+    let a = asked(Kind::PredPivotValue, k, i, 0, Width::Two);
+    Ok(below_power(rest, a, h.bl_depth())? as u16)
+}
+
 fn pivots(
     rest: &mut &[u8],
     h: FittingHeader,
@@ -23,12 +31,7 @@ fn pivots(
     requires { count ≤ pivot_places }
     ensures { as_read result rest.new.now ≡ filled pivot_places 0 count (pivot h.header k) rest.old.now }
 {
-    let mut preds = [0; PIVOTS];
-    for i in 0..count {
-        let a = asked(Kind::PredPivotValue, k, i, 0, Width::Two);
-        preds[i] = below_power(rest, a, h.bl_depth())? as u16;
-    }
-    Ok(preds)
+    filled(rest, 0, count, |rest, i| pivot(rest, h, k, i))
 }
 
 fn nlq(rest: &mut &[u8], h: FittingHeader, k: usize) -> Result<Nlq, Failure>
