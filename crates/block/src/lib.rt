@@ -18,7 +18,8 @@ use sections::read_section;
 
 // What reading comes to: 0 and the plan, or the refusal's number, the byte and the field where the failure was met, and
 // a plan of zeros. Rules 1 and 2 name no field. It is no Result: a refused block gives a plan of zeros (`Sound`), which
-// rule 7 refuses, so that a caller who does not ask for the number composes nothing.
+// rule 7 refuses, so that a caller who does not ask for the number composes nothing. The number is the
+// house's, as `read` and `Sound` of specs/ speak of it.
 #[derive(Clone, Copy)]
 pub struct Reading {
     pub number: u8,

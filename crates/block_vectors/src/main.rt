@@ -1,5 +1,5 @@
-// Reads composing blocks from standard input, and writes a line for each case: `refused N`, or `plan` and ` INDEX:VALUE` for
-// each place of the plan that is not 0. A stream that is malformed ends there.
+// Reads composing blocks from standard input, and writes a line for each case: `refused N`, or `plan` and `
+// INDEX:VALUE` for each place of the plan that is not 0. A stream that is malformed ends there.
 //
 // The input: the number of base blocks (1 byte), and for each its length (2 bytes) and its bytes. Then cases to the
 // end: the base block's index (1 byte), the part that is read, from and to (2 bytes each), and the number of edits
@@ -89,8 +89,8 @@ fn edited(mut block: [u8; BLOCK_ROOM], edits: &[u8]) -> [u8; BLOCK_ROOM] {
     block
 }
 
-// Reads the block of the first of the cases, where it has the part that is asked for, and gives what follows the case; none where
-// the stream has no whole case more.
+// Reads the block of the first of the cases, where it has the part that is asked for, and gives what follows the case;
+// none where the stream has no whole case more.
 fn read_next<'a>(blocks: &[u8], cases: &'a [u8]) -> Option<(Option<Reading>, &'a [u8])> {
     let (head, rest) = cases.split_first_chunk::<6>()?;
     let [base, from_high, from_low, to_high, to_low, count] = *head;

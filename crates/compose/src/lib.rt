@@ -1,4 +1,5 @@
-// The composing process over pictures: row pairs of a base picture, perhaps with an enhancement picture, to HDR samples.
+// The composing process over pictures: row pairs of a base picture, perhaps with an enhancement picture, to HDR
+// samples.
 #![tactic(auto)]
 
 ghost use Rattle.std.specs.Prelude.{◌≡◌, ◌≤◌, length};

@@ -36,8 +36,8 @@ impl Task<'_> {
         }
     }
 
-    // Opens the band that is loaded, sends its jobs and stores it. Of a late group the jobs that go before the enhancement
-    // comes are sent first, and the band is stored as it then is.
+    // Opens the band that is loaded, sends its jobs and stores it. Of a late group the jobs that go before the
+    // enhancement comes are sent first, and the band is stored as it then is.
     fn compose_loaded(&self, runs: &mut Runs) -> Result<(), Said> {
         let (way, count) = (self.files.way, self.band.count);
         let come = way.come_at(count);

@@ -5,7 +5,7 @@
 pub mod kinds; // the kinds of fields
 pub mod numbers; // big-endian numbers that stand at a place
 
-ghost use Rattle.std.specs.Prelude.{Bool, true, ℕ, ◌≡◌, ◌<◌, ◌≤◌, leb, ltb, IfOk};
+ghost use Rattle.std.specs.Prelude.{◌^◌, Bool, true, ℕ, ◌≡◌, ◌<◌, ◌≤◌, leb, ltb, IfOk};
 ghost use Rattle.refusals.specs.Refusals.{number_of};
 ghost use Rattle.fields.specs.Fields.{wide, field, ended};
 ghost use Rattle.fields.specs.inner.Readers.{as_read};
@@ -59,7 +59,8 @@ pub struct Failure {
 
 // A field, whatever it holds.
 pub fn raw(rest: &mut &[u8], a: Ask) -> Result<u64, Failure>
-    ensures { as_read result rest.new.now ≡ field a (λ v. true) (λ v. 0) rest.old.now }
+    ensures value { as_read result rest.new.now ≡ field a (λ v. true) (λ v. 0) rest.old.now }
+    ensures small { IfOk result (λ v. v < 256 ^ wide a.width) }
 {
     let w = a.width.bytes();
     if rest.len() < w {
@@ -119,9 +120,6 @@ pub fn ended(rest: &[u8], name: Name, refusal: Refusal) -> Result<(), Failure>
     if rest.is_empty() {
         Ok(())
     } else {
-        Err(Failure {
-            refusal: refusal,
-            name: name,
-        })
+        Err(Failure { refusal, name })
     }
 }

@@ -13,8 +13,8 @@ pub(crate) fn number(bytes: &[u8]) -> u64
     v
 }
 
-// The number of w bytes that stands at a place; 0 where they are not all there. `one`, `two` and `four` are this, each as
-// the type of its width.
+// The number of w bytes that stands at a place; 0 where they are not all there. `one`, `two` and `four` are this, each
+// as the type of its width.
 fn number_at(s: &[u8], at: usize, w: usize) -> u64
     requires { w ≤ 4 }
     ensures { (result ≡ number_at s.now at w) × (result < 256 ^ w) }

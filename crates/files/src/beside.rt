@@ -7,8 +7,8 @@ use std::fs::{File, remove_file, rename};
 use std::io::Result;
 
 impl Word<'_> {
-    // The name beside it, in this room: it and `.part`. It is empty, and names no file, where there is no such word or no
-    // room for it.
+    // The name beside it, in this room: it and `.part`. It is empty, and names no file, where there is no such word or
+    // no room for it.
     fn name_beside<'b>(self, room: &'b mut [u8]) -> &'b [u8] {
         let ending = b".part";
         let n = self.fill(room);
@@ -40,7 +40,7 @@ impl Word<'_> {
     pub fn sum_beside(self) -> u32 {
         match self.open_beside() {
             Ok(file) => sum_of(&file),
-            Err(_) => 1,
+            Err(_) => 1, // Adler-32 of nothing
         }
     }
 

@@ -31,7 +31,8 @@ impl Word<'_> {
         File::open(self.rt, path_of(self.bytes(&mut room))?)
     }
 
-    // The length of the file that it names, 0 where it has none.
+    // The length of the file that it names, 0 where it has none: a file that cannot be read is told by `is_readable`,
+    // and an empty one has no picture and no block either.
     pub fn file_length(self) -> usize {
         match self.open() {
             Ok(file) => length_of(&file).unwrap_or(0) as usize,
@@ -39,8 +40,8 @@ impl Word<'_> {
         }
     }
 
-    // The last bytes of the file that it names, in this room, as many as there is room for; none where it cannot be read
-    // or sought in.
+    // The last bytes of the file that it names, in this room, as many as there is room for; none where it cannot be
+    // read or sought in.
     pub fn last_bytes<'b>(self, room: &'b mut [u8]) -> &'b [u8] {
         let n = match self.open() {
             Ok(file) => read_end(&file, room),

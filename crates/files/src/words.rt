@@ -19,7 +19,8 @@ pub struct Word<'a> {
 }
 
 impl Word<'_> {
-    // How many bytes it has, which are put into the first of the room; 0 where there is no such word, or no room for it.
+    // How many bytes it has, which are put into the first of the room; 0 where there is no such word, or no room for
+    // it: it is then as an empty word, which names no file.
     pub(crate) fn fill(self, room: &mut [u8]) -> usize
         ensures { result ≤ length room.new }
     {

@@ -14,8 +14,8 @@ use plan::{Header, Plan};
 use refusals::Refusal;
 use rule_seven::passes;
 
-// How many samples the table of a header's plan has, 3 x 2^BL_bit_depth. It is 0, and no `None`, where the header does not pass
-// rule 7: a caller that lends so many samples then meets rule 7, and not 9.
+// How many samples the table of a header's plan has, 3 x 2^BL_bit_depth. It is 0, and no `None`, where the header does
+// not pass rule 7: a caller that lends so many samples then meets rule 7, and not 9.
 pub fn table_size(h: Header) -> usize
     ensures { result ≡ cond (header_fits h) (table_size h) 0 }
 {
@@ -33,8 +33,9 @@ fn fill_part(mapped: &[u16; 1024], codes: usize, from: usize, table: &mut [u16])
     table[from..from + codes].copy_from_slice(&mapped[..codes]);
 }
 
-// Fills a table with the mapped samples of a plan: of luma, then of Cb, then of Cr, by their codes. Refused by rule 7, 9 or 13, in
-// this order, it writes nothing. A plan that passes rule 7 has a component with no table where rule 13 is met.
+// Fills a table with the mapped samples of a plan: of luma, then of Cb, then of Cr, by their codes. Refused by rule 7,
+// 9 or 13, in this order, it writes nothing. A plan that passes rule 7 has a component with no table where rule 13 is
+// met.
 pub fn fill_table(plan: Plan, table: &mut [u16]) -> Result<(), Refusal>
     ensures answers { says result ≡ filling_answer plan (length table.old) }
     ensures writes { table.new ≡ table_after plan table.old }

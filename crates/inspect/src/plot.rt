@@ -124,8 +124,8 @@ impl fmt::Display for Shade {
     }
 }
 
-// The pieces, of which one may stand above the last pivot, and a line at the last pivot. What they leave of the panel is
-// outside the pivots. No place comes near to where it wraps.
+// The pieces, of which one may stand above the last pivot, and a line at the last pivot. What they leave of the panel
+// is outside the pivots. No place comes near to where it wraps.
 #[derive(Clone, Copy)]
 struct Pieces<'a> {
     preds: &'a [u16],
@@ -174,8 +174,8 @@ struct Plot<'a> {
 }
 
 impl Plot<'_> {
-    // Says the panel of a component, so far below the picture's upper edge. Where it is a slice, the other chroma component
-    // is held at the middle code.
+    // Says the panel of a component, so far below the picture's upper edge. Where it is a slice, the other chroma
+    // component is held at the middle code.
     fn panel(self, top: u16, plane: Plane, other: Plane) {
         let Plot { rt, version, plan } = self;
         let c = component_of(plan, plane);

@@ -28,9 +28,9 @@ pub trait Composer: Copy {
         ensures writes { output.new ≡ output_after (given_work (source self) plan work.entry) marks.now output.old };
 }
 
-// Composes the row pairs of its work and marks them: all of them as full where the flag is 1 or an enhancement is used, and
-// otherwise as base only those that are not full already. Refused by the first rule met of 7, 8, 9 on the marks, and those of
-// composing, it writes nothing.
+// Composes the row pairs of its work and marks them: all of them as full where the flag is 1 or an enhancement is
+// used, and otherwise as base only those that are not full already. Refused by the first rule met of 7, 8, 9 on the
+// marks, and those of composing, it writes nothing.
 pub fn job_by<C: Composer>(
     composer: C,
     plan: Plan,
@@ -52,7 +52,8 @@ pub fn job_by<C: Composer>(
         return Err(seven_or(plan, Refusal::Run));
     }
     let full = makes_full(plan.header, work.enhancement.len());
-    // Composing tests 7, the other lengths (9), 13 of a table, 10 and 11 in this order, and where it refuses it writes nothing.
+    // Composing tests 7, the other lengths (9), 13 of a table, 10 and 11 in this order, and where it refuses it writes
+    // nothing.
     composer.compose(plan, work, marks, output)?;
     let last = work.first + work.count;
     mark(full, work.first, last, marks);

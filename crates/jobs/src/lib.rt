@@ -23,8 +23,8 @@ pub struct Left {
     pub base_only: usize,
 }
 
-// A job is done, with the row pairs that still wait and those that are base only, or is refused by a number: the one that a
-// player's log and the C boundary take.
+// A job is done, with the row pairs that still wait and those that are base only, or is refused by a number. It is no
+// Result: the house rules ask for this answer, done with the rows left or refused with the number alone.
 #[derive(Clone, Copy)]
 pub enum Answer {
     Done(usize, usize),
@@ -90,8 +90,8 @@ impl Composer for ByPlan {
     }
 }
 
-// Opens a picture: every row pair waits, and the ticket is handed back as the opened picture's. Refused by rule 7 or 9, in this
-// order, it writes nothing.
+// Opens a picture: every row pair waits, and the ticket is handed back as the opened picture's. Refused by rule 7 or
+// 9, in this order, it writes nothing.
 pub fn open_picture(plan: Plan, ticket: u32, marks: &mut [u8]) -> Result<u32, Refusal>
     ensures answers { opened_says result ≡ opening_answer plan ticket (length marks.old) }
     ensures marking { marks.new ≡ opening_marks plan marks.old }
@@ -101,9 +101,9 @@ pub fn open_picture(plan: Plan, ticket: u32, marks: &mut [u8]) -> Result<u32, Re
     Ok(ticket)
 }
 
-// Composes `count` row pairs from `first` on and marks them: all of them as full where the flag is 1 or an enhancement is used,
-// and otherwise as base only those that are not full already. Refused by one of the rules 7 to 11, in this order, it writes
-// nothing.
+// Composes `count` row pairs from `first` on and marks them: all of them as full where the flag is 1 or an enhancement
+// is used, and otherwise as base only those that are not full already. Refused by one of the rules 7 to 11, in this
+// order, it writes nothing.
 pub fn compose_job(
     plan: Plan,
     open_ticket: u32,
@@ -129,7 +129,8 @@ pub fn compose_job(
     Answer::from(done)
 }
 
-// Carries demand 2, so that the gate names it: what a job writes is the composing process of clause 5.4, sample by sample.
+// Carries demand 2, so that the gate names it: what a job writes is the composing process of clause 5.4, sample by
+// sample.
 #[tactic(auto, using(crate::proofs::Samples::every_sample_holds))]
 pub fn every_sample()
     ensures { EverySample }

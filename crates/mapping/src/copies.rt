@@ -1,6 +1,6 @@
 // What the mapping reads of a component's pieces, copied. The loop goes over all places and does little, so that the
-// compiler unrolls it and reads the numbers where they lie. With turns that it does not know it would copy the component
-// first.
+// compiler unrolls it and reads the numbers where they lie. With turns that it does not know it would copy the
+// component first.
 ghost use Rattle.std.specs.Prelude.{◌≡◌};
 ghost use Rattle.plan.specs.Rule7.{piece_places};
 ghost use Rattle.mapping.specs.inner.Mapped.{order_by};

@@ -1,4 +1,5 @@
-// The mapping of base layer samples (5.4.2): a table of what every code comes to, since a picture has many more samples than there are codes.
+// The mapping of base layer samples (5.4.2): a table of what every code comes to, since a picture has many more
+// samples than there are codes.
 #![tactic(auto)]
 
 mod copies; // what the mapping reads of the pieces, copied
@@ -15,9 +16,9 @@ use plan::{Component, Header};
 use polynomial::Scale;
 use table::table_by;
 
-// The mapped sample of each code, where there is one: a component with an MMR piece, or one that cannot be computed with,
-// has none. Of a piece its method, its order and the coefficients of a polynomial are copied, and nothing else of it is
-// read.
+// The mapped sample of each code, where there is one: a component with an MMR piece, or one that cannot be computed
+// with, has none. Of a piece its method, its order and the coefficients of a polynomial are copied, and nothing else
+// of it is read.
 pub fn mapped_table(h: Header, c: Component) -> Option<[u16; 1024]>
     ensures { result ≡ answer h c }
 {

@@ -24,6 +24,7 @@ fn shifted(x: u64, shift: u32) -> i64
 }
 
 // What is asked here, and below, is of a depth, a sample and a row together: no one of them could carry it.
+
 // The sum over the three coefficients of a row; one that the piece's order does not use is 0 and adds nothing.
 fn sum_of(depth: u32, s: u16, row: [i64; 3]) -> i64
     requires { RowRanges depth s row }
@@ -35,7 +36,8 @@ fn sum_of(depth: u32, s: u16, row: [i64; 3]) -> i64
     row[0] * 1048576 + row[1] * linear + row[2] * square
 }
 
-// The sum at a sample, by how much it grows to the sample after it, and by how much that grows, which is always the same.
+// The sum at a sample, by how much it grows to the sample after it, and by how much that grows, which is always the
+// same.
 #[derive(Clone, Copy)]
 pub(crate) struct Course {
     pub value: i64,

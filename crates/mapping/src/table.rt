@@ -16,8 +16,8 @@ fn hold(table: &mut [u16; 1024], from: u16, to: u16, value: u16)
     table[from as usize..to as usize].fill(value);
 }
 
-// The codes of one piece, of which none is clamped. The polynomial goes on from code to code by its differences: there is no
-// product in the loop, and no branch.
+// The codes of one piece, of which none is clamped. The polynomial goes on from code to code by its differences: there
+// is no product in the loop, and no branch.
 fn go_on(table: &mut [u16; 1024], from: u16, to: u16, scale: Scale, row: [i64; 3])
     requires { StretchGiven scale.depth from to row × (length table.old ≡ 1024) }
     ensures { table.new ≡ painted (between from to) (by_row scale.depth scale.d row) table.old }
@@ -33,9 +33,9 @@ fn go_on(table: &mut [u16; 1024], from: u16, to: u16, scale: Scale, row: [i64; 3
     }
 }
 
-// Codes come in order, and so do their pieces: none is searched. Codes below the first pivot are held at it, with piece 0,
-// and codes from the last one on at that, with piece n + 1; in between a piece has the codes up to its next pivot, or none
-// where that is no greater.
+// Codes come in order, and so do their pieces: none is searched. Codes below the first pivot are held at it, with
+// piece 0, and codes from the last one on at that, with piece n + 1; in between a piece has the codes up to its next
+// pivot, or none where that is no greater.
 pub(crate) fn table_by(
     scale: Scale,
     n: usize,

@@ -48,8 +48,8 @@ pub fn clear(marks: &mut [u8])
     marks.fill(WAITS);
 }
 
-// The row pairs from `from` up to, but not including, `to` are composed: all of them are full, or those that were not are base
-// only. Where they do not all have a mark, nothing is written.
+// The row pairs from `from` up to, but not including, `to` are composed: all of them are full, or those that were not
+// are base only. Where they do not all have a mark, nothing is written.
 pub fn mark(full: bool, from: usize, to: usize, marks: &mut [u8])
     ensures { marks.new ≡ marked full from to marks.old }
 {
@@ -63,8 +63,8 @@ pub fn mark(full: bool, from: usize, to: usize, marks: &mut [u8])
     put_based(from, to, marks);
 }
 
-// How many marks have a value. `filter` and `count` of an iterator are not made into vectors: a job of one row pair takes 4 %
-// more instructions by them.
+// How many marks have a value. `filter` and `count` of an iterator are not made into vectors: a job of one row pair
+// takes 4 % more instructions by them.
 fn count(value: u8, marks: &[u8]) -> usize
     ensures { result ≡ tally (has value) marks.now }
 {

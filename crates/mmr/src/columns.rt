@@ -1,4 +1,5 @@
-// One row of Cb and of Cr samples, from the two luma rows beside it. Both components have the same terms, which are made once.
+// One row of Cb and of Cr samples, from the two luma rows beside it. Both components have the same terms, which are
+// made once.
 ghost use Rattle.std.specs.Prelude.{◌≡◌, ◌+◌, ◌*◌, ◌<◌, ◌≤◌, length};
 ghost use Rattle.runs.specs.Runs.{painted};
 ghost use Rattle.mmr.specs.inner.Terms.{Agreed};
@@ -43,8 +44,8 @@ fn column_terms(both: &Both, p: Place, base: &[u16], i: usize) -> Terms
     terms_of(f.order, f.depth, s0, s1, s2)
 }
 
-// The columns of one row of Cb and of Cr. Both pieces are searched first: what each comparison needs of the one before it is
-// waited for while the terms are made.
+// The columns of one row of Cb and of Cr. Both pieces are searched first: what each comparison needs of the one before
+// it is waited for while the terms are made.
 pub(crate) fn compose_columns(both: &Both, inputs: &Inputs, p: Place, output: &mut [u16])
     requires base { PlaceGiven p (length inputs.now.base.now) }
     requires enhancement { PlaceGiven p (length inputs.now.enhancement.now) }

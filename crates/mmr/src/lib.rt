@@ -1,5 +1,5 @@
-// The MMR mapping of chroma samples (5.4.2.3.3). It is worked out sample by sample, since it goes by three of them: a table of
-// codes does not serve it. Cb and Cr are composed together, as their terms are the same.
+// The MMR mapping of chroma samples (5.4.2.3.3). It is worked out sample by sample, since it goes by three of them: a
+// table of codes does not serve it. Cb and Cr are composed together, as their terms are the same.
 #![tactic(auto)]
 
 mod both; // both components made ready
@@ -48,7 +48,8 @@ fn runs_fit(h: Header, base: usize, enhancement: usize, output: usize) -> bool
     (base == size) & ((enhancement == size) & (output == size))
 }
 
-// What all samples go by: the depths, the pivots' ends of three components, and the highest order of both chroma components.
+// What all samples go by: the depths, the pivots' ends of three components, and the highest order of both chroma
+// components.
 fn format_of(p: &Plan) -> Format
     requires { PlanReady p.now }
     ensures { FormatFor p.now result }
@@ -80,9 +81,10 @@ fn both_of(p: &Plan) -> Both
     }
 }
 
-// Composes the row pairs of Cb and Cr from `first` up to, but not including, `last`: each sample is mapped, a raised residual of
-// its enhancement sample is added, and the HDR sample is cut out of the sum. Row pairs that are full by the marks are
-// kept. Where the plan's numbers cannot be computed with, or the runs are not whole pictures, nothing is written.
+// Composes the row pairs of Cb and Cr from `first` up to, but not including, `last`: each sample is mapped, a raised
+// residual of its enhancement sample is added, and the HDR sample is cut out of the sum. Row pairs that are full by
+// the marks are kept. Where the plan's numbers cannot be computed with, or the runs are not whole pictures, nothing is
+// written.
 pub fn compose_chroma(plan: Plan, first: usize, last: usize, inputs: &Inputs, output: &mut [u16])
     ensures { output.new ≡ chroma_after plan first last inputs.now.cb_raised.now inputs.now.cr_raised.now inputs.now.cut inputs.now.marks.now inputs.now.base.now inputs.now.enhancement.now output.old }
 {

@@ -1,5 +1,5 @@
-// A slice through the mapping of Cb or of Cr: what each of its codes is mapped to where luma and the other chroma sample
-// are at the middle code. It is made once, to be looked at.
+// A slice through the mapping of Cb or of Cr: what each of its codes is mapped to where luma and the other chroma
+// sample are at the middle code. It is made once, to be looked at.
 ghost use Rattle.std.specs.Prelude.{◌≡◌, true, ◌+◌, ◌*◌};
 ghost use Rattle.runs.specs.inner.Loops.{at};
 ghost use Rattle.runs.specs.inner.Tables.{table, coded};

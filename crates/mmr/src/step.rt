@@ -25,7 +25,9 @@ fn polynomial_step(d: u8, row: &[i64; ROW], t: u64) -> u16
     )
 }
 
-// An MMR piece of at most the terms' order whose coefficients are small. The counts are literals, so that the sums are unrolled.
+// An MMR piece of at most the terms' order whose coefficients are small. The counts are literals, so that the sums are
+// unrolled. What is asked of a row hangs on d, so that no type keeps it; d itself is tested where a component is made
+// ready.
 fn narrow_step(d: u8, row: &[i64; ROW], ts: &Terms) -> u16
     requires d_bound { d ≤ 32 }
     requires sum_given { SumGiven narrow_most 22 row.now }

@@ -1,4 +1,5 @@
-// The sum over a row's terms, in 64 bits. The counts are literals where these are called, so that the compiler unrolls the loops.
+// The sum over a row's terms, in 64 bits. The counts are literals where these are called, so that the compiler unrolls
+// the loops.
 ghost use Rattle.std.specs.Prelude.{◌≡◌, ◌*◌, ◌≤◌, ◌^◌, nat_abs};
 ghost use Rattle.std.specs.Int.Signed.{shr_z};
 ghost use Rattle.runs.specs.inner.Loops.{at};

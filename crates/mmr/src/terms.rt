@@ -59,7 +59,8 @@ fn first_terms(depth: u32, s0: u16, s1: u16, s2: u16) -> [u64; ROW]
     ]
 }
 
-// The terms up to an order. Each of the second is the square of one of the first, and each of the third the product of both.
+// The terms up to an order. Each of the second is the square of one of the first, and each of the third the product of
+// both.
 pub(crate) fn terms_of(order: usize, depth: u32, s0: u16, s1: u16, s2: u16) -> Terms
     requires order_bound { (1 ≤ order) × (order ≤ 3) }
     requires terms_given { TermsGiven depth s0 s1 s2 }

@@ -1,5 +1,6 @@
-// Runs the nights of the second program (second/README.md has their format): a picture is opened, jobs come in any order and
-// again, and what is left in the memory is printed. Both runs that are lent lie between guards, which nobody may touch.
+// Runs the nights of the second program (second/README.md has their format): a picture is opened, jobs come in any
+// order and again, and what is left in the memory is printed. Both runs that are lent lie between guards, which nobody
+// may touch.
 #![tactic(auto)]
 
 use jobs::{Answer, compose_job, open_picture};

@@ -77,7 +77,8 @@ fn put_integer(out: &mut [u8], at: usize, long: bool, v: u32)
     }
 }
 
-// Puts a number with a fraction of d bits. Where d is above 32 its fraction has more than four bytes, and nothing is written.
+// Puts a number with a fraction of d bits. Where d is above 32 its fraction has more than four bytes, and nothing is
+// written.
 pub fn number(out: &mut [u8], at: usize, long: bool, d: u8, z: Distance)
     ensures { out.new ≡ put_number out.old at long d (from_distance z.below z.far) }
 {
@@ -92,8 +93,8 @@ pub fn number(out: &mut [u8], at: usize, long: bool, d: u8, z: Distance)
     put(out, at + w, fraction(d, z).to_be_bytes());
 }
 
-// Puts a number of either sign. Each sign has a call of its own: with From<i64> for Distance and one call the sign is worked
-// into each byte, and the longest block takes some 30 % more time.
+// Puts a number of either sign. Each sign has a call of its own: with From<i64> for Distance and one call the sign is
+// worked into each byte, and the longest block takes some 30 % more time.
 pub fn signed(out: &mut [u8], at: usize, long: bool, d: u8, z: i64)
     ensures { out.new ≡ put_number out.old at long d z }
 {

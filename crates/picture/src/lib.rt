@@ -1,4 +1,5 @@
-// A picture in memory, by its columns and row pairs alone: how many samples it has, and where the row pairs of a plane lie.
+// A picture in memory, by its columns and row pairs alone: how many samples it has, and where the row pairs of a plane
+// lie.
 #![tactic(auto)]
 
 ghost use Rattle.std.specs.Prelude.{◌≡◌, ◌*◌, ◌≤◌, ◌^◌};
@@ -58,8 +59,8 @@ impl Extent {
 }
 
 impl Plane {
-    // Whether row pairs from `first` up to `last` lie within a run of n samples. The sum of their samples could wrap, so it
-    // is not made.
+    // Whether row pairs from `first` up to `last` lie within a run of n samples. The sum of their samples could wrap,
+    // so it is not made.
     pub fn lies(self, first: usize, last: usize, n: usize) -> bool
         ensures { result ≡ lies self first last n }
     {

@@ -49,8 +49,8 @@ pub struct Files<'a> {
 }
 
 impl<'a> Files<'a> {
-    // Opens the files of pictures with this header, which hold whole pictures, and makes the one beside the output; says
-    // why, where that cannot be. An enhancement that is not used is not even opened.
+    // Opens the files of pictures with this header, which hold whole pictures, and makes the one beside the output;
+    // says why, where that cannot be. An enhancement that is not used is not even opened.
     pub fn open(names: Names<'a>, way: Way, h: Header) -> Result<Self, Said> {
         let size = 12 * chroma_size(h.columns, h.pairs);
         let pictures = names.pictures(size)?;

@@ -111,8 +111,8 @@ impl RefusedJob<'_> {
         Said
     }
 
-    // Says why. No rule but that of a sample can come of files whose lengths were tested and jobs that name the band's own
-    // row pairs.
+    // Says why. No rule but that of a sample can come of files whose lengths were tested and jobs that name the band's
+    // own row pairs.
     pub fn say(self, rule: Refusal) -> Said {
         let Names {
             base,

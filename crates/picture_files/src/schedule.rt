@@ -115,8 +115,8 @@ impl Way {
         }
     }
 
-    // Whether job k goes without the enhancement. In a late group those that are sent again do so too: after the standby
-    // the base is there first.
+    // Whether job k goes without the enhancement. In a late group those that are sent again do so too: after the
+    // standby the base is there first.
     pub fn is_bare(self, n: u16, k: u16) -> bool {
         self == Way::Late
             && (k < self.come_at(n) || (self.standby_at(n)..self.rest_at(n)).contains(&k))

@@ -11,8 +11,8 @@ ghost use Rattle.plan.specs.Rule7.{fitting, no_plan};
 
 use limits::{PIECES, PIVOTS, ROW};
 
-// The header's fields (5.3.2), as the block carries them. W is twice `columns`, and H twice `pairs`. C builds plans and hands
-// them over, so the fields of these structs, their order and their layout are the C interface.
+// The header's fields (5.3.2), as the block carries them. W is twice `columns`, and H twice `pairs`. C builds plans
+// and hands them over, so the fields of these structs, their order and their layout are the C interface.
 #[repr(C)]
 #[derive(Clone, Copy, Default, PartialEq, Eq)]
 pub struct Header {
@@ -29,8 +29,8 @@ pub struct Header {
     pub darkest: u32, // min_display_mastering_luminance, in units of 0.0001 cd/m2
 }
 
-// One piece of a component's mapping (5.3.3): mapping_idc, its order less 1, and its row of coefficients. A polynomial's are
-// fp_poly_coef; of MMR place 0 is fp_mmr_constant, and place 7 (i - 1) + j + 1 is fp_mmr_coef[i][j].
+// One piece of a component's mapping (5.3.3): mapping_idc, its order less 1, and its row of coefficients. A
+// polynomial's are fp_poly_coef; of MMR place 0 is fp_mmr_constant, and place 7 (i - 1) + j + 1 is fp_mmr_coef[i][j].
 #[repr(C)]
 #[derive(Clone, Copy, Default, PartialEq, Eq)]
 pub struct Piece {

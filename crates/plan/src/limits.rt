@@ -1,4 +1,5 @@
-// The limits of the house rules' tables, each once. specs/Ranges.antt and specs/Rule7.antt have the same numbers for the logic.
+// The limits of the house rules' tables, each once. specs/Ranges.antt and specs/Rule7.antt have the same numbers for
+// the logic.
 pub const MOST_COLUMNS: u16 = 2048; // W/2
 
 pub const MOST_PAIRS: u16 = 1152; // H/2

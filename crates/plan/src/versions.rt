@@ -26,8 +26,8 @@ pub fn pieces_carried(version: u16, n: u8) -> usize
     }
 }
 
-// The pieces of a component, by those that its section carries, which stand in the first places: version 1 is read as if
-// piece n stood twice.
+// The pieces of a component, by those that its section carries, which stand in the first places: version 1 is read as
+// if piece n stood twice.
 pub fn copy_last(version: u16, n: u8, carried: [Piece; PIECES]) -> [Piece; PIECES]
     ensures { result ≡ copied version n carried }
 {

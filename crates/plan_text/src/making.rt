@@ -23,7 +23,8 @@ fn read_field(text: &[u8], kind: Kind, count: u8) -> Result<(u32, &[u8]), Fault<
     read_number(after_lead(text, kind)?, kind, count)
 }
 
-// Puts bytes into a block where it has room for them. The place at the end says whether there was room for all.
+// Puts bytes into a block where it has room for them. The place at the end says whether there was room for all: so it
+// goes by places, and the trailer is put at one.
 fn put(block: &mut [u8], at: usize, bytes: &[u8]) {
     if let Some(room) = block.get_mut(at..at.saturating_add(bytes.len())) {
         room.copy_from_slice(bytes);

@@ -22,8 +22,8 @@ fn split_digits(text: &[u8]) -> (&[u8], &[u8]) {
     }
 }
 
-// What the field's bytes hold for the number at the begin of the text, which has a minus where the field may be negative,
-// and the text after it. The number of a component or of a piece is to be `count`.
+// What the field's bytes hold for the number at the begin of the text, which has a minus where the field may be
+// negative, and the text after it. The number of a component or of a piece is to be `count`.
 pub(crate) fn read_number(text: &[u8], kind: Kind, count: u8) -> Result<(u32, &[u8]), Fault<'_>> {
     let unsigned = if kind.is_signed() {
         text.strip_prefix(b"-")

@@ -21,7 +21,8 @@ impl fmt::Display for Lead {
     }
 }
 
-// The text of a block that reading accepts, whose bytes are the whole of the slice. A block has fewer fields than bytes.
+// The text of a block that reading accepts, whose bytes are the whole of the slice. A block has fewer fields than
+// bytes.
 #[derive(Clone, Copy)]
 struct Text<'a>(&'a [u8]);
 

@@ -96,7 +96,8 @@ impl Walk {
         }
     }
 
-    // After a coefficient comes the next one, which begins with this field, or the next piece, or what follows the pieces.
+    // After a coefficient comes the next one, which begins with this field, or the next piece, or what follows the
+    // pieces.
     fn after_coefficient(&mut self, coefficient: Kind) {
         let piece = self.piece.wrapping_add(1);
         if 0 < self.left {

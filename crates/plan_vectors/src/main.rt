@@ -1,5 +1,5 @@
-// Holds the plans of the second program's vectors against rule 7 (second/README.md has their format): plans as read, with some
-// places changed, and one line of answer for each, 0 or 7. A stream that is malformed ends there.
+// Holds the plans of the second program's vectors against rule 7 (second/README.md has their format): plans as read,
+// with some places changed, and one line of answer for each, 0 or 7. A stream that is malformed ends there.
 #![tactic(auto)]
 
 use plan::Plan;

@@ -1,6 +1,7 @@
-// Row pairs composed plane by plane: a plane's tables are made once a call, and its row pairs go by them. Nothing is asked of the
-// plan or the samples: what the tables hold for a plan that passes rule 7 is for `compose` to say. The runs are lent one by one, as
-// a job has them: marks and base only read, an enhancement or none, and the output written.
+// Row pairs composed plane by plane: a plane's tables are made once a call, and its row pairs go by them. Nothing is
+// asked of the plan or the samples: what the tables hold for a plan that passes rule 7 is for `compose` to say. The
+// runs are lent one by one, as a job has them: marks and base only read, an enhancement or none, and the output
+// written.
 #![tactic(auto)]
 
 ghost use Rattle.std.specs.Prelude.{◌≡◌};
@@ -100,8 +101,9 @@ fn enhanced_chroma(
     compose_chroma(plan, r.first, r.last, &inputs, output);
 }
 
-// Without residual. Whatever is handed the plan or a component comes before anything is written: they are large, and what
-// is read of them after a store to the output is copied before it, as the compiler does not know that they differ.
+// Without residual. Whatever is handed the plan or a component comes before anything is written: they are large, and
+// what is read of them after a store to the output is copied before it, as the compiler does not know that they
+// differ.
 pub fn plain_planes(plan: Plan, r: Rows, marks: &[u8], base: &[u16], output: &mut [u16])
     ensures { output.new ≡ plain_picture plan r marks.now base.now output.old }
 {

@@ -1,5 +1,5 @@
-// The rules by which a call refuses, each with its number in the house's table (docs/RULES.md, "Refusals"). What an answer
-// says, and that the first rule met gives it, are definitions in specs/, with laws in proofs/.
+// The rules by which a call refuses, each with its number in the house's table (docs/RULES.md, "Refusals"). What an
+// answer says, and that the first rule met gives it, are definitions in specs/, with laws in proofs/.
 #![tactic(auto)]
 
 ghost use Rattle.std.specs.Prelude.{◌≡◌, ◌≤◌};
@@ -13,7 +13,7 @@ pub enum Refusal {
     Length,
     Header,
     Field,
-    Reserved, // not given any more: MMR is a method as others are
+    Reserved, // never given
     Plan,
     Ticket,
     Run,
@@ -32,7 +32,7 @@ impl Refusal {
     }
 }
 
-// The number that an answer says: the refusal's, or 0 where it is none.
+// The number that an answer says: the refusal's, or 0 where it is none, as C has it.
 pub fn number<T: Copy>(answer: Result<T, Refusal>) -> u8
     ensures { result ≡ number_in answer }
 {

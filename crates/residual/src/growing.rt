@@ -1,5 +1,5 @@
-// The residuals of the codes on one side of the offset. Before they are limited they grow evenly from code to code, so that the
-// loop has no product.
+// The residuals of the codes on one side of the offset. Before they are limited they grow evenly from code to code, so
+// that the loop has no product.
 ghost use Rattle.std.specs.Prelude.{◌≡◌, ◌≤◌, ◌/◌, ◌^◌, pos, nat_abs, ◌+ℤ◌, length};
 ghost use Rattle.runs.specs.Runs.{painted, between};
 ghost use Rattle.standard.specs.Mapping.{from_zero};
@@ -37,9 +37,9 @@ fn lifted(shift: u32, far: u64, dq: i64) -> u32
     (x >> shift) as u32
 }
 
-// What a scaled distance comes to: limited, divided and raised. The code raises it first, by what the division makes 2^29, and
-// limits it last: no step has a sign, and the limits are of 32 bits, so that the compiler makes several at once. At the end all
-// but 2^17 and the rounding term is taken off again.
+// What a scaled distance comes to: limited, divided and raised. The code raises it first, by what the division makes
+// 2^29, and limits it last: no step has a sign, and the limits are of 32 bits, so that the compiler makes several at
+// once. At the end all but 2^17 and the rounding term is taken off again.
 fn raised_by(out: u32, shift: u32, most: u64, dq: i64) -> u32
     requires { CodeGiven out shift most dq }
     ensures { result ≡ raised_by out shift (pos most) dq }

@@ -1,5 +1,5 @@
-// The residual (5.4.3.2) and the reconstruction (5.4.3.3), as tables of what every code, mapped sample and sum comes to.
-// Each is zeros where the header or the quantization cannot be computed with.
+// The residual (5.4.3.2) and the reconstruction (5.4.3.3), as tables of what every code, mapped sample and sum comes
+// to. Each is zeros where the header or the quantization cannot be computed with.
 #![tactic(auto)]
 
 mod depths; // what residuals are computed with
@@ -23,8 +23,8 @@ use rounding::{finish, power, raise};
 use rule_seven::quantizes;
 use sums::Cut;
 
-// The raised residual of each code, in a table: of those below the offset, of that at it, and of those above it. Where they
-// cannot be computed the table stays as it is.
+// The raised residual of each code, in a table: of those below the offset, of that at it, and of those above it. Where
+// they cannot be computed the table stays as it is.
 fn fill_residuals(table: &mut [u32; 1024], h: Header, q: Nlq)
     requires { length table.old ≡ 1024 }
     ensures { table.new ≡ cond (header_fits h && nlq_fits h q) (painted (below (2 ^ el_depth h)) (raised_code (hdr_depth h) (el_depth h) h.d q) table.old) table.old }
@@ -96,7 +96,8 @@ pub fn finished_table(h: Header, mapped: &[u16]) -> [u16; 1024]
     table
 }
 
-// How an HDR sample is cut out of a sixteenth of a sum: it depends on the depth alone, so that it serves three components.
+// How an HDR sample is cut out of a sixteenth of a sum: it depends on the depth alone, so that it serves three
+// components.
 pub fn cut_numbers(h: Header) -> Cut
     ensures { result ≡ cut_numbers h }
 {

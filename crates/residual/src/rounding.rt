@@ -1,4 +1,5 @@
-// The reconstruction of one HDR sample (5.4.3.3), in two parts: what is done to the residual, and what is done to a mapped sample that has none.
+// The reconstruction of one HDR sample (5.4.3.3), in two parts: what is done to the residual, and what is done to a
+// mapped sample that has none.
 ghost use Rattle.std.specs.Prelude.{◌≡◌, ◌≤◌, ◌^◌, pos, nat_abs};
 ghost use Rattle.standard.specs.Residual.{reconstructed};
 ghost use Rattle.residual.specs.inner.Raising.{raised};
@@ -18,8 +19,8 @@ pub(crate) fn raise(out: u32, r: i64) -> u32
     (r + (131072 + (power(15 - out) as i64))) as u32
 }
 
-// The HDR sample of a mapped sample without residual. The sum is cut at 16 bits, which it has throughout, so that a loop
-// finishes eight at once.
+// The HDR sample of a mapped sample without residual. The sum is cut at 16 bits, which it has throughout, so that a
+// loop finishes eight at once.
 #[tactic(auto, using(crate::proofs::Raising::plain))]
 pub(crate) fn finish(out: u32, v: u16) -> u16
     requires { (1 ≤ out) × (out ≤ 12) }

@@ -10,9 +10,9 @@ use sums::Tables;
 // So many sums stay in the nearest cache from the first pass to the second.
 pub(crate) const PART: usize = 128;
 
-// Writes what is cut out of each sum of a mapped sample and a raised residual, part by part and each in two passes: the first
-// goes by the tables; the second has no table and no branch, so that eight samples are cut at once, while their sums are near.
-// The places of the sums are lent, and what stands there is nobody's.
+// Writes what is cut out of each sum of a mapped sample and a raised residual, part by part and each in two passes:
+// the first goes by the tables; the second has no table and no branch, so that eight samples are cut at once, while
+// their sums are near. The places of the sums are lent, and what stands there is nobody's.
 pub(crate) fn add_up(
     tables: Tables,
     base: &[u16],

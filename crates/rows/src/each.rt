@@ -1,5 +1,6 @@
-// One row pair after the other: each is a part of the runs, lent to a loop over slices. That it lies in them is asked by
-// clauses, run by run: a struct would hold the output, a `&mut`, beside what is known of it, which no generated proof covers.
+// One row pair after the other: each is a part of the runs, lent to a loop over slices. That it lies in them is asked
+// by clauses, run by run: a struct would hold the output, a `&mut`, beside what is known of it, which no generated
+// proof covers.
 ghost use Rattle.std.specs.Prelude.{◌≡◌, ◌+◌, ◌<◌, ◌≤◌, length};
 ghost use Rattle.runs.specs.Runs.{painted, between};
 ghost use Rattle.marks.specs.inner.Marks.{not_full};

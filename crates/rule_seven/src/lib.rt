@@ -16,9 +16,9 @@ use plan::{Component, Header, Nlq, Plan};
 use ranges::nlq_fits;
 
 // Whether component k of a plan can be computed with, for whoever is handed a component alone: k is a number, as the
-// definitions and those who count the three components have it. Its pieces are read where
-// they lie: a component is large, and to hand it on is to copy it. Pieces that are used, and those that are not, are two
-// loops whose turns go by n: one loop over all places would be unrolled, and the array taken apart byte by byte.
+// definitions and those who count the three components have it. Its pieces are read where they lie: a component is
+// large, and to hand it on is to copy it. Pieces that are used, and those that are not, are two loops whose turns go
+// by n: one loop over all places would be unrolled, and the array taken apart byte by byte.
 #[tactic(auto, using(crate::proofs::Whole::too_many))]
 pub fn is_usable(k: usize, h: Header, c: Component) -> bool
     ensures { result ≡ usable k h c }
@@ -43,8 +43,9 @@ pub fn is_usable(k: usize, h: Header, c: Component) -> bool
     pivots & (fit & residual)
 }
 
-// Whether each component of a plan can be computed with: luma, and chroma as the components `cb` and `cr`. A component is
-// named on its way to its test, and this is inlined: it is then handed on where it lies in the plan, and not copied.
+// Whether each component of a plan can be computed with: luma, and chroma as the components `cb` and `cr`. A component
+// is named on its way to its test, and this is inlined: it is then handed on where it lies in the plan, and not
+// copied.
 #[inline(always)]
 fn each_usable(plan: Plan, cb: usize, cr: usize) -> bool
     ensures { result ≡ (usable 0 plan.header plan.y && (usable cb plan.header plan.cb && usable cr plan.header plan.cr)) }

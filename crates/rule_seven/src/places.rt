@@ -29,8 +29,8 @@ fn coefficient_place(h: FittingHeader, idc: u8, used: bool, z: i64) -> bool
     }
 }
 
-// Place by place, whatever is used. The method, how many places are used and the row come together three times, and would be
-// put into a struct for each piece only to be taken out again.
+// Place by place, whatever is used. The method, how many places are used and the row come together three times, and
+// would be put into a struct for each piece only to be taken out again.
 fn places_fit(h: FittingHeader, idc: u8, used: usize, row: &[i64; ROW]) -> bool
     ensures { result ≡ row_fits h.header idc used row.now }
 {
@@ -41,7 +41,8 @@ fn places_fit(h: FittingHeader, idc: u8, used: usize, row: &[i64; ROW]) -> bool
     fit
 }
 
-// Nothing stands in the places that no polynomial has: there is no choice to make of each, so that the compiler joins them.
+// Nothing stands in the places that no polynomial has: there is no choice to make of each, so that the compiler joins
+// them.
 fn rest_is_zero(row: &[i64; ROW]) -> bool
     ensures { result ≡ every (row_places - 3) (λ j. is_zero (get_or row.now (3 + j) (pos 0))) }
 {
@@ -52,7 +53,8 @@ fn rest_is_zero(row: &[i64; ROW]) -> bool
     zero
 }
 
-// A row of a polynomial's few places, of which the first `used` are used. A call for each piece would cost a tenth of the whole.
+// A row of a polynomial's few places, of which the first `used` are used. A call for each piece would cost a tenth of
+// the whole.
 #[inline(always)]
 fn few_fit(h: FittingHeader, idc: u8, used: usize, row: &[i64; ROW]) -> bool
     requires { used ≤ 3 }
@@ -87,8 +89,8 @@ fn polynomial_fits(h: FittingHeader, q: &Piece) -> bool
     few_fit(h, 0, usize::from(q.order) + 2, &q.row)
 }
 
-// A piece of component k: 0 is luma, 1 Cb and 2 Cr. Where k is known to be 0 the compiler has a loop for it alone, in which
-// a row's places past the third are joined two at once.
+// A piece of component k: 0 is luma, 1 Cb and 2 Cr. Where k is known to be 0 the compiler has a loop for it alone, in
+// which a row's places past the third are joined two at once.
 #[tactic(auto, unfolding(plan::specs::Rule7::piece_fits))]
 pub(crate) fn piece_fits(k: usize, h: FittingHeader, q: &Piece) -> bool
     ensures { result ≡ piece_fits k h.header q.now }

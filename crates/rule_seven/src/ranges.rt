@@ -1,5 +1,5 @@
-// The ranges of a component's numbers, which are made of the header's. No test here leans on another, so all are made, and `&`
-// joins them.
+// The ranges of a component's numbers, which are made of the header's. No test here leans on another, so all are made,
+// and `&` joins them.
 ghost use Rattle.std.specs.Prelude.{◌≡◌, ◌^◌, ◌≤◌, ltb};
 ghost use Rattle.plan.specs.Ranges.{coefficient_fits, unsigned_fits};
 ghost use Rattle.plan.specs.Rule7.{nlq_fits};

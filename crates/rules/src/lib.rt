@@ -17,8 +17,8 @@ use refusals::Refusal;
 use rule_seven::passes;
 use samples::is_wrong_sample;
 
-// What a call is to compose: so many row pairs from `first` on, of a base picture and, where its length is not 0, an enhancement
-// picture. A call from outside has these four one by one.
+// What a call is to compose: so many row pairs from `first` on, of a base picture and, where its length is not 0, an
+// enhancement picture. A call from outside has these four one by one.
 #[derive(Clone, Copy)]
 pub struct Work<'a> {
     pub first: usize,

@@ -12,7 +12,8 @@ use picture::Extent;
 use plan::Header;
 use spans::joined_six;
 
-// How many codes a sample has, by its bit depth less 8.
+// How many codes a sample has, by its bit depth less 8. Base and enhancement have a depth each, so that none of what
+// follows could be handed the header alone.
 fn codes_of(minus8: u8) -> u16
     requires { minus8 ≤ 2 }
     ensures { result ≡ 2 ^ (minus8 + 8) }

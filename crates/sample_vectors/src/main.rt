@@ -1,5 +1,5 @@
-// Runs the composing vectors of the second program (second/README.md has their format): one line of answer for each case on
-// standard input. A stream that is malformed ends there.
+// Runs the composing vectors of the second program (second/README.md has their format): one line of answer for each
+// case on standard input. A stream that is malformed ends there.
 #![tactic(auto)]
 
 use compose::{compose_row_pairs, picture_size};

@@ -53,7 +53,8 @@ fn read_first(word: Word) -> IoResult<usize> {
     word.open()?.read_at(&mut [0u8; 1], 0)
 }
 
-// Why the file cannot be read is found by trying it again; error 0 where nothing keeps it from that any more.
+// Why the file cannot be read is found by trying it again; the line says error 0 where nothing
+// keeps it from that any more.
 pub fn say_unread(word: Word) -> Said {
     let cause = match read_first(word) {
         Ok(_) => Cause(0),

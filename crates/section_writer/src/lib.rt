@@ -40,8 +40,8 @@ fn nlq(out: &mut [u8], at: usize, d: u8, q: Nlq)
     number(out, at + 12, false, d, q.threshold.into());
 }
 
-// Writes the section of a component in a version from `at` on, with fractions of d bits. Where it does not fit nothing is
-// written.
+// Writes the section of a component in a version from `at` on, with fractions of d bits. Where it does not fit nothing
+// is written.
 pub fn put_section(out: &mut [u8], at: usize, version: u16, d: u8, c: &Component)
     ensures { out.new ≡ put_section out.old at version d c.now }
 {

@@ -8,7 +8,8 @@ use pen::{integer_bytes, put, signed};
 use plan::Piece;
 use plan::methods::{MMR, coefficients_used};
 
-// The first coefficients of a row; what stands past its places is 0. Gives the place after them.
+// The first coefficients of a row; what stands past its places is 0. Gives the place after them. That d is at most 32
+// is tested once, by `put_section`, and asked for below it.
 fn coefficients(out: &mut [u8], at: usize, d: u8, long: bool, row: &[i64], count: usize) -> usize
     requires d_bound { d ≤ 32 }
     requires count_in_bounds { at + length (row_bytes long d row.now count) ≤ length out.old }

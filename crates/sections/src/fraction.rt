@@ -27,7 +27,9 @@ pub(crate) fn below_power(rest: &mut &[u8], a: Ask, bits: u32) -> Result<u64, Fa
     below(rest, a, power(bits), Refusal::Field)
 }
 
-// The coefficient in place i of piece p. The fraction adds upward, also to a negative integer part.
+// The coefficient in place i of piece p. The fraction adds upward, also to a negative integer part. Readers are handed
+// `rest`, the header and the section one by one: a struct would hold the `&mut` that a reader moves on, and be lent
+// anew at each `?`.
 #[tactic(auto, using(crate::proofs::Making::sum_fits))]
 pub(crate) fn coefficient(
     rest: &mut &[u8],

@@ -1,4 +1,5 @@
-// The whole of a section: the number of pivots, the pivots, the pieces and the residual's numbers, and nothing left over.
+// The whole of a section: the number of pivots, the pivots, the pieces and the residual's numbers, and nothing left
+// over.
 ghost use Rattle.std.specs.Prelude.{◌≡◌, ◌≤◌};
 ghost use Rattle.plan.specs.Rule7.{pivot_places};
 ghost use Rattle.fields.specs.inner.Readers.{as_read, filled};
@@ -50,8 +51,8 @@ fn nlq(rest: &mut &[u8], h: FittingHeader, k: usize) -> Result<Nlq, Failure>
     })
 }
 
-// Section k of a block of a version, which is the whole of what is lent. Version 1 carries no piece n + 1, and piece n stands for
-// it. Where a field failed, what is left begins with it.
+// Section k of a block of a version, which is the whole of what is lent. Version 1 carries no piece n + 1, and piece n
+// stands for it. Where a field failed, what is left begins with it.
 pub fn read_section(
     rest: &mut &[u8],
     version: u16,

@@ -33,7 +33,8 @@ fn ends_within(start: usize, n: usize, places: usize) -> bool
     n <= places && start <= places - n
 }
 
-// As many samples as a line of the caches has bytes for: fewer a turn, and a stretch is left before its line is used up.
+// As many samples as a line of the caches has bytes for: fewer a turn, and a stretch is left before its line is used
+// up.
 fn look_up_line(table: &[u16; 1024], base: &[u16], i: usize, output: &mut [u16])
     requires { (i + 32 ≤ length base.now) × (i + 32 ≤ length output.old) }
     ensures { output.new ≡ painted (between i (i + 32)) (looked_up table.now base.now) output.old }

@@ -1,6 +1,6 @@
-// Loops over whole slices: samples looked up in a table, and the bits of six runs joined. A table has a place for every
-// index that a loop can ask for, so that nothing is asked of the samples. Table and base are handed on one by one: a struct of
-// these two references would make no line shorter, and each clause longer.
+// Loops over whole slices: samples looked up in a table, and the bits of six runs joined. A table has a place for
+// every index that a loop can ask for, so that nothing is asked of the samples. Table and base are handed on one by
+// one: a struct of these two references would make no line shorter, and each clause longer.
 #![tactic(auto)]
 
 pub mod apart; // stretches that stand apart, in step
@@ -26,8 +26,8 @@ fn join(a: u16, b: u16, c: u16, d: u16) -> u64
     (((a as u64) + ((b as u64) << 16)) + ((c as u64) << 32)) + ((d as u64) << 48)
 }
 
-// Four samples as one number, the first one lowest: the compiler makes one load of them. Where there are no four, 0: a caller
-// that lends four pays for no test.
+// Four samples as one number, the first one lowest: the compiler makes one load of them. Where there are no four, 0: a
+// caller that lends four pays for no test.
 pub fn four(part: &[u16]) -> u64
     ensures is { result ≡ four part.now }
     ensures gives { 4 ≤ length part.now → Given part.now 0 result }
@@ -38,8 +38,8 @@ pub fn four(part: &[u16]) -> u64
     join(part[0], part[1], part[2], part[3])
 }
 
-// Stores a number as four samples, the lowest first: the compiler makes one store of them. Where there are no four places,
-// nothing: a caller that lends four pays for no test.
+// Stores a number as four samples, the lowest first: the compiler makes one store of them. Where there are no four
+// places, nothing: a caller that lends four pays for no test.
 pub fn put_four(x: u64, part: &mut [u16])
     ensures { part.new ≡ put_four x part.old }
 {

@@ -1,6 +1,6 @@
-// Row jobs of both kinds, the filling of a table, and the writer, as a C harness calls them, for measuring only: each answers a
-// number, which is what C takes. `speed_c` exports them. It is a static library, which no crate can use, and so what they promise
-// stands here, where `calls` has it.
+// Row jobs of both kinds, the filling of a table, and the writer, as a C harness calls them, for measuring only: each
+// answers a number, which is what C takes. `speed_c` exports them. It is a static library, which no crate can use, and
+// so what they promise stands here, where `calls` has it.
 #![tactic(auto)]
 
 ghost use Rattle.std.specs.Prelude.{◌≡◌, length};

@@ -1,4 +1,5 @@
-// The meaning of clause 5.4 on numbers stands in specs/. These functions carry the worked examples, so that the gate names them.
+// The meaning of clause 5.4 on numbers stands in specs/. These functions carry the worked examples, so that the gate
+// names them.
 #![tactic(auto)]
 
 ghost use Rattle.standard.specs.Examples.{WorkedExamples, WorkedLastPieces, WorkedResiduals};

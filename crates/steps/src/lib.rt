@@ -1,5 +1,5 @@
-// Steps that mapping takes: the pivots (5.3.2), the piece of a sample (5.4.2.2), the clamp to the pivots and the cut of a sum
-// (5.4.2.3).
+// Steps that mapping takes: the pivots (5.3.2), the piece of a sample (5.4.2.2), the clamp to the pivots and the cut
+// of a sum (5.4.2.3).
 #![tactic(auto)]
 
 ghost use Rattle.std.specs.Prelude.{◌≡◌, ◌+◌, ◌<◌, ◌≤◌, min};
@@ -11,8 +11,8 @@ ghost use Rattle.steps.specs.inner.Steps.{Rising, pivot_table, passed, found, cu
 
 use plan::limits::PIVOTS;
 
-// The pivots, each the sum of the predictions up to it, in 16 bits. A larger sum is the largest number of 16 bits: one that
-// wrapped would be a pivot below the one before it. Predictions past the last pivot are 0.
+// The pivots, each the sum of the predictions up to it, in 16 bits. A larger sum is the largest number of 16 bits: one
+// that wrapped would be a pivot below the one before it. Predictions past the last pivot are 0.
 pub fn pivots_of(preds: [u16; PIVOTS]) -> [u16; PIVOTS]
     ensures { result ≡ pivot_table preds }
 {
@@ -25,8 +25,8 @@ pub fn pivots_of(preds: [u16; PIVOTS]) -> [u16; PIVOTS]
     pivots
 }
 
-// One comparison: a pivot that is not greater than the sample is passed, and so are those before it. Its answer enters as a
-// number: of an `if` the compiler makes a branch for x86-64, which no processor can guess.
+// One comparison: a pivot that is not greater than the sample is passed, and so are those before it. Its answer enters
+// as a number: of an `if` the compiler makes a branch for x86-64, which no processor can guess.
 fn passed(pivots: &[u16; PIVOTS], s: u16, low: usize, half: usize) -> usize
     requires { low + half < pivot_places }
     ensures { (result ≡ passed (at pivots.now) s low half) × (result ≤ low + half) }
@@ -34,10 +34,10 @@ fn passed(pivots: &[u16; PIVOTS], s: u16, low: usize, half: usize) -> usize
     low + half * usize::from(pivots[low + half] <= s)
 }
 
-// The piece of a sample that is not clamped yet: the first whose next pivot is greater, or n + 1. Pivots rise, so it is the
-// number of those, from the second on, that are not greater. Each comparison halves what is left of 16, and none is a branch.
-// Places above the last pivot in use are compared too: a loop that goes by their number is slower. One piece takes one
-// comparison.
+// The piece of a sample that is not clamped yet: the first whose next pivot is greater, or n + 1. Pivots rise, so it
+// is the number of those, from the second on, that are not greater. Each comparison halves what is left of 16, and
+// none is a branch. Places above the last pivot in use are compared too: a loop that goes by their number is slower.
+// One piece takes one comparison.
 pub fn piece_of(pivots: &[u16; PIVOTS], n: usize, s: u16) -> usize
     ensures is { result ≡ found (at pivots.now) n s }
     ensures piece { Rising (at pivots.now) → n ≤ most_n → result ≡ pivot_idx (at pivots.now) n s }

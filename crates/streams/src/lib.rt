@@ -22,7 +22,8 @@ pub const BLOCK_ROOM: usize = 8192;
 // A stream has at most so many groups.
 const GROUPS: usize = 100000;
 
-// Has group after group answered, each of which begins with a block. A stream ends where it has no whole length of a block more.
+// Has group after group answered, each of which begins with a block. A stream ends where it has no whole length of a
+// block more.
 pub fn answer_all<F: FnMut(&HostRuntime, Plan)>(rt: &HostRuntime, mut answer: F)
     requires { F.IsAlwaysCallable answer }
 {
@@ -82,8 +83,8 @@ pub fn next_block(rt: &HostRuntime, length: usize) -> Reading
     block::read(bytes)
 }
 
-// The plan with the changes that come next, after their number: each a place and its new value, made in order. A number past
-// the last place stands for the last.
+// The plan with the changes that come next, after their number: each a place and its new value, made in order. A
+// number past the last place stands for the last.
 pub fn next_plan(rt: &HostRuntime, mut plan: Plan) -> Plan {
     for _ in 0..next_byte(rt) {
         let number = next_count(rt).min(PLACES - 1);

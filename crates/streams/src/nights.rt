@@ -1,4 +1,5 @@
-// Pictures that are composed by jobs: the runs and the plan that a job refers to, what it is lent, and what is said of it.
+// Pictures that are composed by jobs: the runs and the plan that a job refers to, what it is lent, and what is said of
+// it.
 use crate::guards::{GUARDS, Guarded, MARK, SAMPLE};
 use crate::{Spaced, next_byte, next_count, next_run, next_ticket, untouch};
 use plan::Plan;
@@ -10,8 +11,8 @@ const RUN_ROOM: usize = 96;
 
 const RUNS: usize = 16;
 
-// The runs of a stream, to which jobs refer by their places. One that is too long goes on in the rooms behind its own: so the rooms lie
-// in one array, and the lengths apart.
+// The runs of a stream, to which jobs refer by their places. One that is too long goes on in the rooms behind its own:
+// so the rooms lie in one array, and the lengths apart.
 #[derive(Clone, Copy)]
 pub struct Runs {
     rooms: [u16; RUNS * RUN_ROOM],
@@ -89,8 +90,8 @@ pub struct Picture {
 }
 
 impl Picture {
-    // The marks as the stream has them, none where they are too many, and an output run that nobody wrote; no picture where that
-    // is too long.
+    // The marks as the stream has them, none where they are too many, and an output run that nobody wrote; no picture
+    // where that is too long.
     pub fn next(rt: &HostRuntime) -> Option<Picture> {
         let mut marks = match Guarded::new(MARK, next_count(rt)) {
             Some(marks) => marks,

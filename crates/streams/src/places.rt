@@ -1,5 +1,5 @@
-// The places of a plan by their numbers (second/README.md has them as a table): first those of the header, then those of each
-// component.
+// The places of a plan by their numbers (second/README.md has them as a table): first those of the header, then those
+// of each component.
 ghost use Rattle.std.specs.Prelude.{◌≡◌, ◌≤◌, ◌↔◌, IsNone};
 ghost use Rattle.streams.specs.inner.Places.{held};
 

@@ -1,4 +1,5 @@
-// Samples added up by two tables, over whole slices: mapped samples and raised residuals, of whose sums the samples are cut out.
+// Samples added up by two tables, over whole slices: mapped samples and raised residuals, of whose sums the samples
+// are cut out.
 #![tactic(auto)]
 
 mod entries; // what is added up for one sample

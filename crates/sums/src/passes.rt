@@ -41,8 +41,8 @@ impl Tables<'_> {
     }
 }
 
-// A sixteenth of a sum, shifted down. What it leaves out is shifted out at the top first: so the compiler knows that 15 bits are
-// left, and packs eight of them at once.
+// A sixteenth of a sum, shifted down. What it leaves out is shifted out at the top first: so the compiler knows that
+// 15 bits are left, and packs eight of them at once.
 fn shifted(shift: u32, sum: u32) -> u16
     requires { shift < 8 }
     ensures { result ≡ sixteenth sum / 2 ^ shift }

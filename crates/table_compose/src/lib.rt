@@ -15,11 +15,12 @@ use rows::Rows;
 use rules::{Work, is_used};
 use table_rules::refusal_of;
 
-// Composes `count` row pairs from `first` on, or refuses by rule 7, 9, 13, 10 or 11, in this order, and writes nothing.
-// Row pairs that the marks say are full are kept where the call makes base only ones; without marks nothing is kept.
-// It parts from `compose_row_pairs` in each call that it makes, and what its planes ask for is what acceptance gives: a trait that
-// both go through would have to require that of calls from other crates, and no call between crates requires anything.
-// What is read of the plan is read before anything is written: it is large, and would be copied else.
+// Composes `count` row pairs from `first` on, or refuses by rule 7, 9, 13, 10 or 11, in this order, and writes
+// nothing. Row pairs that the marks say are full are kept where the call makes base only ones; without marks nothing
+// is kept. It parts from `compose_row_pairs` in each call that it makes, and what its planes ask for is what
+// acceptance gives: a trait that both go through would have to require that of calls from other crates, and no call
+// between crates requires anything. What is read of the plan is read before anything is written: it is large, and
+// would be copied else.
 pub fn compose_by_table(
     plan: Plan,
     table: &[u16],

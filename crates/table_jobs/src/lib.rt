@@ -1,4 +1,5 @@
-// Row jobs that look mapped samples up in a table that they are lent: a picture's plain jobs and these may come in any order.
+// Row jobs that look mapped samples up in a table that they are lent: a picture's plain jobs and these may come in any
+// order.
 #![tactic(auto)]
 
 ghost use Rattle.std.specs.Prelude.{◌≡◌};
@@ -41,8 +42,9 @@ impl Composer for ByTable<'_> {
     }
 }
 
-// Composes `count` row pairs from `first` on, with the mapped samples that the table has, whatever they are, and marks them, full
-// and base only as a plain job does. Refused by rule 7, 8, 9, 13, 10 or 11, in this order, it writes nothing.
+// Composes `count` row pairs from `first` on, with the mapped samples that the table has, whatever they are, and marks
+// them, full and base only as a plain job does. Refused by rule 7, 8, 9, 13, 10 or 11, in this order, it writes
+// nothing.
 pub fn compose_table_job(
     plan: Plan,
     table: &[u16],

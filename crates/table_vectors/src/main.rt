@@ -1,6 +1,6 @@
-// Runs the cases of the second program about tables (second/README.md has their format): a table that is lent is filled, damaged
-// and shown, two pictures are composed by plain jobs and by table jobs in any order, and what is left in the memory is printed.
-// All that is lent lies between guards, which nobody may touch.
+// Runs the cases of the second program about tables (second/README.md has their format): a table that is lent is
+// filled, damaged and shown, two pictures are composed by plain jobs and by table jobs in any order, and what is left
+// in the memory is printed. All that is lent lies between guards, which nobody may touch.
 #![tactic(auto)]
 
 use filling::fill_table;
@@ -135,7 +135,8 @@ impl Case {
         };
     }
 
-    // One value everywhere in a part of the table. Where the table has no such part, no value follows, and nothing is said.
+    // One value everywhere in a part of the table. Where the table has no such part, no value follows, and nothing is
+    // said.
     fn damage(&mut self, rt: &HostRuntime) {
         let from = next_count(rt);
         let to = next_count(rt);

@@ -1,7 +1,7 @@
-// Has the plans of the second program's vectors written (second/README.md has their format): plans as read, with some places
-// changed, into slices of every length. One line for each: the answer, `length`, and the check sum of the slice and of 16 bytes
-// on each side of it; after a block that was written, the number that reading it gives, the same for what was read, and what
-// becomes of the block as text. A stream that is malformed ends there.
+// Has the plans of the second program's vectors written (second/README.md has their format): plans as read, with some
+// places changed, into slices of every length. One line for each: the answer, `length`, and the check sum of the slice
+// and of 16 bytes on each side of it; after a block that was written, the number that reading it gives, the same for
+// what was read, and what becomes of the block as text. A stream that is malformed ends there.
 #![tactic(auto)]
 
 use plan::Plan;
@@ -56,8 +56,8 @@ impl fmt::Display for Written {
     }
 }
 
-// Writes a plan between the guards of a room. Before, each byte is one more than that before it, so that a byte that is left,
-// and one that is written past the block, show.
+// Writes a plan between the guards of a room. Before, each byte is one more than that before it, so that a byte that
+// is left, and one that is written past the block, show.
 fn write(plan: Plan, version: u16, first: u8, room: &mut [u8]) -> Written {
     for (i, byte) in room.iter_mut().enumerate() {
         *byte = first.wrapping_add((i & 0xff) as u8);
@@ -75,8 +75,8 @@ fn comparison(is_same: bool) -> &'static str {
     if is_same { "same" } else { "other" }
 }
 
-// The length and the check sum of a block's text; the text is made a block again, and that is shown again: whether block and text
-// are the same as before.
+// The length and the check sum of a block's text; the text is made a block again, and that is shown again: whether
+// block and text are the same as before.
 fn say_text(rt: &HostRuntime, block: &[u8]) {
     let mut room = [0; TEXT_ROOM];
     let text = plan_text::show(block, &mut room).unwrap_or_default();
@@ -90,8 +90,8 @@ fn say_text(rt: &HostRuntime, block: &[u8]) {
     let _ = print!(rt; " {length} {sum} {blocks} {texts}");
 }
 
-// One line, and none where the room is too small. The room has the slice that is lent between its guards. Where a block was
-// written, it is read, what was read is written again, and the block is shown as text.
+// One line, and none where the room is too small. The room has the slice that is lent between its guards. Where a
+// block was written, it is read, what was read is written again, and the block is shown as text.
 fn answer_case(rt: &HostRuntime, plan: Plan) {
     let plan = next_plan(rt, plan);
     let version = next_number(rt);

@@ -17,8 +17,8 @@ use section_writer::put_section;
 use trailer::put_trailer;
 
 // The length of a plan's block of a version, which a slice must have to be written: 138 to 6,160 in version 1, 174 to
-// 6,533 in version 2. It is 0, and no `None`, where rule 7 refuses the plan, or it has no block of this version: a caller that
-// lends so many bytes then meets rule 7, and not 12.
+// 6,533 in version 2. It is 0, and no `None`, where rule 7 refuses the plan, or it has no block of this version: a
+// caller that lends so many bytes then meets rule 7, and not 12.
 pub fn length(plan: Plan, version: u16) -> usize
     ensures value { result ≡ block_length plan version }
     ensures limits { Limits plan version result }
@@ -32,10 +32,10 @@ pub fn length(plan: Plan, version: u16) -> usize
     }
 }
 
-// Writes the block of a plan in a version from the first byte of a lent slice on, and gives its length. Refused by rule 7,
-// for the plan or because it has no block of this version, or by rule 12, for a slice that is shorter than the block, in
-// this order, it writes nothing; bytes after the block stay. The plan is handed to rule 7 here, and not lent on to be tested: it is
-// large, and out of a loan it would be copied once more.
+// Writes the block of a plan in a version from the first byte of a lent slice on, and gives its length. Refused by
+// rule 7, for the plan or because it has no block of this version, or by rule 12, for a slice that is shorter than the
+// block, in this order, it writes nothing; bytes after the block stay. The plan is handed to rule 7 here, and not lent
+// on to be tested: it is large, and out of a loan it would be copied once more.
 pub fn write(plan: Plan, version: u16, out: &mut [u8]) -> Result<usize, Refusal>
     ensures answers { says result ≡ answer plan version (length out.old) }
     ensures writes { out.new ≡ written plan version out.old }
