@@ -35,7 +35,7 @@ pub fn wrong_column(head: &[u8], h: Header) -> Option<Name>
         ((h.el == 0) | (h.el == 2), Kind::ElDepth),
         (h.bl == h.el, Kind::Depths),
         (
-            ((h.el as u16) + 8 + 5 <= (h.d as u16)) & (h.d <= MOST_D),
+            (u16::from(h.el) + 8 + 5 <= u16::from(h.d)) & (h.d <= MOST_D),
             Kind::Denominator,
         ),
         ((h.hdr == 2) | (h.hdr == 4), Kind::HdrDepth),
@@ -48,7 +48,7 @@ pub fn wrong_column(head: &[u8], h: Header) -> Option<Name>
         ((1 <= h.pairs) & (h.pairs <= MOST_PAIRS), Kind::Pairs),
         (h.brightest <= MOST_LUMINANCE, Kind::Brightest),
         (two(head, 14) == 0, Kind::Zero14),
-        (h.darkest < 10000 * (h.brightest as u32), Kind::Darkest),
+        (h.darkest < 10000 * u32::from(h.brightest), Kind::Darkest),
         (four(head, 20) == 0, Kind::Zero20),
     ];
     let kind = first_wrong(&table)?;
