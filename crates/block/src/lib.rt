@@ -73,7 +73,8 @@ fn part(
     }
 }
 
-// The sections from first byte to last: the first failure met is the answer.
+// The sections from first byte to last: the first failure met is the answer. The trailer's numbers are cast by `as`, here, in `body`
+// and in `read`: by `usize::from` each place is what a call answers, and the three proofs no longer closed.
 fn sections(bytes: &[u8], t: usize, x: Trailer, h: FittingHeader) -> Result<Plan, Fault>
     requires { Placed (length bytes.now) t x }
     ensures { said result ≡ sections bytes.now t x h.header }

@@ -32,12 +32,12 @@ pub fn read_trailer(s: &[u8]) -> Trailer
     let version = two(s, 8);
     let last = two(s, 10);
     Trailer {
-        a: a,
-        d0: d0,
-        d1: d1,
-        d2: d2,
-        version: version,
-        last: last,
+        a,
+        d0,
+        d1,
+        d2,
+        version,
+        last,
     }
 }
 
@@ -45,7 +45,7 @@ pub fn read_trailer(s: &[u8]) -> Trailer
 pub fn trailer_fits(x: Trailer) -> bool
     ensures { result ≡ trailer_fits x }
 {
-    let header = (x.a as u32) == (x.d0 as u32) + 24;
+    let header = u32::from(x.a) == u32::from(x.d0) + 24;
     let falling = (x.d1 < x.d0) & ((x.d2 < x.d1) & (0 < x.d2));
     is_known(x.version) & ((x.last == 0) & (header & falling))
 }
@@ -66,17 +66,17 @@ pub fn read_header(s: &[u8]) -> Header
     let brightest = two(s, 12);
     let darkest = four(s, 16);
     Header {
-        profile: profile,
-        level: level,
-        d: d,
-        bl: bl,
-        el: el,
-        hdr: hdr,
-        disabled: disabled,
-        columns: columns,
-        pairs: pairs,
-        brightest: brightest,
-        darkest: darkest,
+        profile,
+        level,
+        d,
+        bl,
+        el,
+        hdr,
+        disabled,
+        columns,
+        pairs,
+        brightest,
+        darkest,
     }
 }
 

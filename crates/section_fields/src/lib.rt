@@ -139,8 +139,8 @@ pub fn signed(idc: u8, v: u32) -> i64
     ensures { result ≡ signed (integer_width idc) v }
 {
     let top = integer_numbers(idc);
-    if (v as u64) < top / 2 {
-        return v as i64;
+    if u64::from(v) < top / 2 {
+        return i64::from(v);
     }
-    (v as i64) - (top as i64)
+    i64::from(v) - (top as i64)
 }

@@ -5,4 +5,4 @@ use Rattle.frame.proofs.trailer_fits.Goals as goal
 
 pub returns : goal.returns
 unfolding trailer_fits
-returns c = rw (c.is_known.ensures, and-true)
+returns c = rw (c.from.ensures, c.from-2.ensures, c.is_known.ensures, and-true)
