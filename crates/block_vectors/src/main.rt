@@ -12,7 +12,7 @@ use block::Reading;
 use std::io::Read;
 use std::{fmt, io};
 use streams::BLOCK_ROOM;
-use streams::places::{PLACES, Place};
+use streams::places::NotZero;
 
 // A stream has at most so many bytes.
 const STREAM_ROOM: usize = 262144;
@@ -27,17 +27,7 @@ impl fmt::Display for Said<'_> {
         if refusal != 0 {
             return write!(f, "refused {refusal}");
         }
-        write!(f, "plan")?;
-        let mut plan = self.0.plan;
-        for index in 0..PLACES {
-            if let Some(place) = Place::of(&mut plan, index) {
-                let value = place.value();
-                if value != 0 {
-                    write!(f, " {index}:{value}")?;
-                }
-            }
-        }
-        Ok(())
+        write!(f, "plan{}", NotZero(&self.0.plan))
     }
 }
 
@@ -61,10 +51,9 @@ fn block_length(stream: &[u8]) -> usize
 // The block that comes first, as far as there is room for it. Bytes that the stream does not have are 0.
 fn first_block(stream: &[u8]) -> [u8; BLOCK_ROOM] {
     let mut block = [0; BLOCK_ROOM];
-    let bytes = stream.iter().skip(2).take(block_length(stream));
-    for (place, byte) in block.iter_mut().zip(bytes) {
-        *place = *byte;
-    }
+    let bytes = stream.get(2..).unwrap_or_default();
+    let n = bytes.len().min(block_length(stream)).min(BLOCK_ROOM);
+    block[..n].copy_from_slice(&bytes[..n]);
     block
 }
 
@@ -77,8 +66,8 @@ fn skip_blocks(stream: &[u8], count: u8) -> &[u8] {
     rest
 }
 
-// The block after the edits, of which those behind its room are left out.
-fn edited(mut block: [u8; BLOCK_ROOM], edits: &[u8]) -> [u8; BLOCK_ROOM] {
+// Makes the edits in a block. Those behind its room are left out.
+fn edit(block: &mut [u8; BLOCK_ROOM], edits: &[u8]) {
     let (edits, _) = edits.as_chunks::<3>();
     for edit in edits {
         let [high, low, byte] = *edit;
@@ -86,18 +75,21 @@ fn edited(mut block: [u8; BLOCK_ROOM], edits: &[u8]) -> [u8; BLOCK_ROOM] {
             *place = byte;
         }
     }
-    block
 }
 
-// Reads the block of the first of the cases, where it has the part that is asked for, and gives what follows the case;
-// none where the stream has no whole case more.
-fn read_next<'a>(blocks: &[u8], cases: &'a [u8]) -> Option<(Option<Reading>, &'a [u8])> {
+// Answers the first of the cases, where its block has the part that is asked for, and gives what follows the case; none
+// where the stream has no whole case more. A reading has some 9,700 bytes, so it is said where it is made: it would be
+// copied each time that it is handed on.
+fn answer_next<'a>(rt: &HostRuntime, blocks: &[u8], cases: &'a [u8]) -> Option<&'a [u8]> {
     let (head, rest) = cases.split_first_chunk::<6>()?;
     let [base, from_high, from_low, to_high, to_low, count] = *head;
     let (edits, rest) = rest.split_at_checked(3 * usize::from(count))?;
-    let block = edited(first_block(skip_blocks(blocks, base)), edits);
-    let part = block.get(pair(from_high, from_low)..pair(to_high, to_low));
-    Some((part.map(block::read), rest))
+    let mut block = first_block(skip_blocks(blocks, base));
+    edit(&mut block, edits);
+    if let Some(part) = block.get(pair(from_high, from_low)..pair(to_high, to_low)) {
+        let _ = println!(rt; "{}", Said(&block::read(part)));
+    }
+    Some(rest)
 }
 
 fn main(rt: HostRuntime) {
@@ -110,12 +102,9 @@ fn main(rt: HostRuntime) {
     };
     let mut cases = skip_blocks(blocks, *count);
     for _ in 0..length {
-        let Some((reading, rest)) = read_next(blocks, cases) else {
+        let Some(rest) = answer_next(&rt, blocks, cases) else {
             return;
         };
-        if let Some(reading) = reading {
-            let _ = println!(rt; "{}", Said(&reading));
-        }
         cases = rest;
     }
 }

@@ -155,6 +155,7 @@ leaves_settled =
       table_refusal_of = λ κs a r r' s s' p q. one_refusal r r' (p ∙ sym q);
       table_size = λ κs a r r' s s' p q. p ∙ sym q;
       seven_or = λ κs a r r' s s' p q. p ∙ sym q;
+      seven_or_refusal = λ κs a r r' s s' p q. p ∙ sym q;
       is_marked = λ κs a r r' s s' p q. p ∙ sym q;
       speed_fill = λ κs a r r' s s' p q. p.0 ∙ sym q.0;
       speed_table = λ κs a r r' s s' p q. p.1 ∙ sym q.1;

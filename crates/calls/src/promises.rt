@@ -164,10 +164,10 @@ pub fn is_marked(plan: plan::Plan, marks: usize) -> bool
     jobs::early::is_marked(plan, marks)
 }
 
-pub fn seven_or(plan: plan::Plan, refusal: refusals::Refusal) -> refusals::Refusal
-    ensures { seven_or_keeps plan refusal result }
+pub fn seven_or<R: Copy>(plan: plan::Plan, refusal: R, seven: R) -> R
+    ensures { seven_or_keeps plan refusal seven result }
 {
-    jobs::early::seven_or(plan, refusal)
+    jobs::early::seven_or(plan, refusal, seven)
 }
 
 pub fn jobs_is_complete(answer: jobs::Answer) -> bool
@@ -719,19 +719,14 @@ pub fn lower_all(cut: sums::Cut, sums: &[u32], output: &mut [u16])
 pub fn sum_up(
     mapped: &[u16; 1024],
     raised: &[u32; 1024],
-    cut: sums::Cut,
     base: &[u16],
     enhancement: &[u16],
     sums: &mut [u32],
 )
-    ensures { sum_up_keeps mapped.now raised.now cut base.now enhancement.now sums.old sums.new }
+    ensures { sum_up_keeps mapped.now raised.now base.now enhancement.now sums.old sums.new }
 {
-    let tables = sums::Tables {
-        mapped,
-        raised,
-        cut,
-    };
-    tables.sum_up(base, enhancement, sums)
+    let addends = sums::Addends { mapped, raised };
+    addends.sum_up(base, enhancement, sums)
 }
 
 pub fn compose_by_table(

@@ -12,7 +12,7 @@ use mapping::mapped_table;
 use plan::ranges::FittingHeader;
 use plan::{Header, Plan};
 use refusals::Refusal;
-use rule_seven::passes;
+use rule_seven::{all_polynomials, passes};
 
 // How many samples the table of a header's plan has, 3 x 2^BL_bit_depth. It is 0, and no `None`, where the header does
 // not pass rule 7: a caller that lends so many samples then meets rule 7, and not 9.
@@ -45,6 +45,10 @@ pub fn fill_table(plan: Plan, table: &mut [u16]) -> Result<(), Refusal>
     }
     if table.len() != table_size(plan.header) {
         return Err(Refusal::Run);
+    }
+    // Asked before any table is made, so that a plan that has none is refused at once.
+    if !all_polynomials(plan) {
+        return Err(Refusal::Method);
     }
     let luma = mapped_table(plan.header, plan.y).ok_or(Refusal::Method)?;
     let blue = mapped_table(plan.header, plan.cb).ok_or(Refusal::Method)?;

@@ -46,10 +46,10 @@ pub fn job_by<C: Composer>(
 {
     // Rule 7 comes before 8 and 9. Composing tests it too, so it is tested here only where one of these two is met.
     if ticket != open_ticket {
-        return Err(seven_or(plan, Refusal::Ticket));
+        return Err(seven_or(plan, Refusal::Ticket, Refusal::Plan));
     }
     if !is_marked(plan, marks.len()) {
-        return Err(seven_or(plan, Refusal::Run));
+        return Err(seven_or(plan, Refusal::Run, Refusal::Plan));
     }
     let full = makes_full(plan.header, work.enhancement.len());
     // Composing tests 7, the other lengths (9), 13 of a table, 10 and 11 in this order, and where it refuses it writes

@@ -8,11 +8,12 @@ use plan::Plan;
 use refusals::Refusal;
 use rule_seven::passes;
 
-// Rule 7 comes before every other: the plan is refused where it meets it, and otherwise the refusal is the one given.
-pub fn seven_or(plan: Plan, refusal: Refusal) -> Refusal
-    ensures { result ≡ cond (fitting plan) refusal Refusal.Plan }
+// Rule 7 comes before every other: `seven` where the plan meets it, and otherwise the refusal given, which may be a
+// rule or its number.
+pub fn seven_or<R: Copy>(plan: Plan, refusal: R, seven: R) -> R
+    ensures { result ≡ cond (fitting plan) refusal seven }
 {
-    if passes(plan) { refusal } else { Refusal::Plan }
+    if passes(plan) { refusal } else { seven }
 }
 
 // Rule 9 on the marks: there is one for each row pair.

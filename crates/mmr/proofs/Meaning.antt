@@ -61,6 +61,9 @@ module _ (k : ℕ) (h : Header) (c : Component) (g : ComponentFacts k h c) (f : 
       let t : clamped (pv 0) (pv (c.n + 1)) s < 2 ^ bl_depth h = omega (arith, lowest) in
       rw e (rw (lt-ltb _ _ t) refl)
 
+  pub to_pivots_low : (s : ℕ) → s < 2 ^ bl_depth h → to_pivots (mapping c) s < 2 ^ bl_depth h
+  to_pivots_low s b = omega (arith, lowest)
+
 -- ---- rows of pieces
 module _ (k : ℕ) (h : Header) (q : Piece) (g : PieceFacts k h q) (f : HeaderFacts h) where
   abbrev used : ℕ

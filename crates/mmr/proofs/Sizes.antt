@@ -1,6 +1,6 @@
 -- How large the terms, the parts and the sums grow. Assumes nothing.
 use mathlib.Core.Path.{◌≡◌, sym, ap, ◌∙◌}
-use Prim.Native.Nat.{ℕ, zero, suc, ◌+◌, ◌-◌, ◌*◌, ◌^◌, ◌<◌, ◌≤◌, zero-le}
+use Prim.Native.Nat.{ℕ, zero, suc, ◌+◌, ◌-◌, ◌*◌, ◌/◌, ◌^◌, ◌<◌, ◌≤◌, zero-le}
 use native.Mathlib.Nat.{le_trans, le_of_eq, mul-le-mul, mul-le-mul_right, mul_comm, suc-mul, div-le_of_le-mul, div-lt_iff_lt-mul}
 use native.Mathlib.Omega.{arith}
 use lib.Pow.{pow-add}
@@ -19,6 +19,9 @@ pub product_le : (k x y : ℕ) → x ≤ 2 ^ k → y ≤ 2 ^ k → x * y ≤ 2 ^
 product_le k x y h l =
     let e : k + k ≡ 2 * k = omega arith in
     le_trans (mul-le-mul h l) (le_of_eq (sym (pow-add 2 k k) ∙ ap (λ (n : ℕ). 2 ^ n) e))
+
+pub high_le : (x y : ℕ) → x ≤ 2 ^ 20 → y ≤ 2 ^ 20 → x * y / 2 ^ 20 ≤ 2 ^ 20
+high_le x y h l = div-le_of_le-mul (2 ^ 20) (mul-le-mul h l)
 
 -- the integer part of a coefficient
 pub whole_le : (z : ℤ) (m k : ℕ) → 0 < m → nat_abs z ≤ k * m → nat_abs (shr_z z m) ≤ k

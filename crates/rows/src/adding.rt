@@ -5,7 +5,7 @@ ghost use Rattle.runs.specs.inner.Loops.{below};
 ghost use Rattle.sums.specs.inner.Sums.{added_up};
 ghost use Rattle.rows.specs.inner.Rows.{part_places};
 
-use sums::Tables;
+use sums::{Addends, Tables};
 
 // So many sums stay in the nearest cache from the first pass to the second.
 pub(crate) const PART: usize = 128;
@@ -23,9 +23,13 @@ pub(crate) fn add_up(
     ensures { output.new ≡ painted (below (min (length base.now) (length enhancement.now))) (added_up tables.entry.mapped.now tables.entry.raised.now tables.entry.cut base.now enhancement.now) output.old }
 {
     let n = base.len().min(enhancement.len()).min(output.len());
+    let addends = Addends {
+        mapped: tables.mapped,
+        raised: tables.raised,
+    };
     for i in (0..n).step_by(PART) {
         let j = i + PART.min(n - i);
-        tables.sum_up(&base[i..j], &enhancement[i..j], sums);
+        addends.sum_up(&base[i..j], &enhancement[i..j], sums);
         tables.cut.lower_all(sums, &mut output[i..j]);
     }
 }

@@ -47,6 +47,10 @@ reach n v (x ∷ xs) h =
     (λ u. inr (0, suc-le-suc zero-le, u))
     (cases_lt x (2 ^ n))
 
+-- and every element is, where they are joined
+pub all-below : (n : ℕ) (l : List ℕ) → joined l < 2 ^ n → (i : ℕ) → i < length l → get_or l i 0 < 2 ^ n
+all-below n l h i b = omega (arith, over 0 l i b)
+
 -- whether an element of a part reaches a power of two
 module _ (from to : ℕ) (l : List ℕ) (f : from ≤ to) (t : to ≤ length l) where
   part-over : (i : ℕ) → from ≤ i → i < to → get_or l i 0 ≤ joined (part from to l)

@@ -69,6 +69,16 @@ painted_on a b c f l h k =
     painted-over (between a b) (between b c) f l
     ∙ painted_cong _ _ f f l (λ i m. between_join a b c i h k) (λ i m t. refl)
 
+-- painting over a painting by a function of what stands there
+pub painted_again : (s : ℕ → Bool) (f g : ℕ → ℕ) (l : List ℕ) → painted s (λ i. g (get_or (painted s f l) i 0)) (painted s f l) ≡ painted s (λ i. g (f i)) l
+painted_again s f g l =
+    is_painted s (λ i. g (f i)) l (painted s (λ i. g (get_or (painted s f l) i 0)) (painted s f l)) (length-painted s _ (painted s f l) ∙ length-painted s f l)
+    (λ i b. at-painted s _ (painted s f l) i 0 (subst (λ (n : ℕ). i < n) (sym (length-painted s f l)) b) ∙ ap (λ (x : ℕ). cond (s i) (g x) x) (at-painted s f l i 0 b) ∙ go (s i) (f i) (get_or l i 0))
+  where
+    go : (u : Bool) (x y : ℕ) → cond u (g (cond u x y)) (cond u x y) ≡ cond u (g x) y
+    go true x y = refl
+    go false x y = refl
+
 -- where nothing is selected the list is as it was
 pub painted_none : (s : ℕ → Bool) (f : ℕ → ℕ) (l : List ℕ) → ((i : ℕ) → i < length l → s i ≡ false) → painted s f l ≡ l
 painted_none s f l e = sym (is_painted s f l l refl (λ i b. sym (ap (λ (u : Bool). cond u (f i) (get_or l i 0)) (e i b))))

@@ -1,8 +1,8 @@
--- Pivots as sums made one prediction at a time, and that they rise. Assumes nothing.
+-- Pivots as sums made one prediction at a time, how large they grow, and that they rise. Assumes nothing.
 use mathlib.Core.Path.{◌≡◌, refl, ap}
 use mathlib.Core.Logic.{⊎_elim}
-use Prim.Native.Nat.{ℕ, zero, suc, ◌+◌, ◌≤◌}
-use native.Mathlib.Nat.{zero-add, le_of_eq, le_trans, eq-or-lt_of_le}
+use Prim.Native.Nat.{ℕ, zero, suc, ◌+◌, ◌*◌, ◌≤◌, zero-le}
+use native.Mathlib.Nat.{zero-add, suc-mul, le_of_eq, le_trans, eq-or-lt_of_le}
 use native.Mathlib.Numerals.{add-one}
 use native.Mathlib.Omega.{arith}
 use Rattle.standard.specs.Mapping.{pivot_value}
@@ -25,6 +25,11 @@ pub total_pivot : (pred : ℕ → ℕ) (i : ℕ) → total pred i + pred i ≡ p
 unfolding total pivot_value
 total_pivot pred zero = zero-add (pred 0)
 total_pivot pred (suc i) = ap (λ (n : ℕ). n + pred (suc i)) (total_pivot pred i)
+
+pub total_le : (pred : ℕ → ℕ) (m k : ℕ) → ((i : ℕ) → pred i ≤ m) → total pred k ≤ k * m
+unfolding total
+total_le pred m zero h = zero-le
+total_le pred m (suc k) h = rw suc-mul (omega (arith, total_le pred m k h, h k))
 
 -- pivots rise
 pub rising : (pred : ℕ → ℕ) (i k : ℕ) → i ≤ k → pivot_value pred i ≤ pivot_value pred k

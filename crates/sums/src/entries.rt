@@ -2,7 +2,7 @@
 ghost use Rattle.std.specs.Prelude.{◌≡◌, ◌+◌, ◌%◌, ◌^◌, ◌<◌, length};
 ghost use Rattle.sums.specs.inner.Sums.{sum_of, summed};
 
-use crate::Tables;
+use crate::Addends;
 
 // A mapped sample and a raised residual, in 32 bits whatever the tables hold.
 pub(crate) fn sum(v: u16, r: u32) -> u32
@@ -11,7 +11,7 @@ pub(crate) fn sum(v: u16, r: u32) -> u32
     u32::from(v).wrapping_add(r)
 }
 
-impl Tables<'_> {
+impl Addends<'_> {
     // Of two samples that are the lowest bits of two numbers.
     pub(crate) fn sum_of(self, s: u64, e: u64) -> u32
         ensures { result ≡ sum_of self.entry.mapped.now self.entry.raised.now s e }

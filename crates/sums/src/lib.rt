@@ -18,6 +18,13 @@ pub struct Cut {
     pub most: u16,
 }
 
+// What is added up: mapped samples and raised residuals.
+#[derive(Clone, Copy)]
+pub struct Addends<'a> {
+    pub mapped: &'a [u16; 1024],
+    pub raised: &'a [u32; 1024],
+}
+
 // What the samples of a plane are added up by: its mapped samples, its raised residuals, and how their sums are cut.
 #[derive(Clone, Copy)]
 pub struct Tables<'a> {

@@ -4,10 +4,10 @@ ghost use Rattle.runs.specs.Runs.{painted, between};
 ghost use Rattle.runs.specs.inner.Loops.{below};
 ghost use Rattle.sums.specs.inner.Sums.{sixteenth, cut_of, summed, lowered_at};
 
-use crate::{Cut, Tables};
+use crate::{Addends, Cut};
 use spans::four;
 
-impl Tables<'_> {
+impl Addends<'_> {
     // Four sums, of four samples of each run that are loaded at once. They are stored after all loads.
     fn sum_four(self, base: &[u16], enhancement: &[u16], i: usize, sums: &mut [u32])
         requires { (i + 4 ≤ length base.now) × (i + 4 ≤ length enhancement.now) × (i + 4 ≤ length sums.old) }

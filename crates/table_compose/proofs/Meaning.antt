@@ -1,15 +1,13 @@
 -- The planes by their parts of a lent table are the picture that composing by the table means. Assumes nothing.
-use mathlib.Core.Path.{◌≡◌, refl, sym, ap, ap₂, subst, ◌∙◌}
+use mathlib.Core.Path.{◌≡◌, refl, sym, ap, ap₂, ◌∙◌}
 use mathlib.Core.Bool.{Bool, true, false, ◌&&◌}
-use mathlib.Core.List.{List, ◌++◌}
+use mathlib.Core.List.{List, [], ◌∷◌}
 use mathlib.Core.Logic.{⊎_elim}
-use Prim.Native.Nat.{ℕ, ◌+◌, ◌-◌, ◌*◌, ◌/◌, ◌%◌, ◌^◌, ◌<◌, ◌≤◌, min}
+use Prim.Native.Nat.{ℕ, zero, suc, ◌+◌, ◌*◌, ◌/◌, ◌%◌, ◌^◌, ◌<◌, ◌≤◌}
 use native.Mathlib.Nat.{mod-eq_of_lt, lt_of_lt_of_le}
 use native.Mathlib.Omega.{arith}
 use lib.IntN.{pos}
-use lib.ListN.{length, take, drop, replicate, get_or-eq_default, get_or-append, length-append, length-drop, length-replicate}
-use lib.Seq.{ext_get_or, get_or-take, get_or-drop, get_or-append_right, length-take-le}
-use Rattle.std.proofs.lemmas.List.{get_or-replicate}
+use lib.ListN.{length, set, replicate, get_or-eq_default}
 use lib.Pow.{pow_mono}
 use Rattle.runs.specs.Runs.{painted, between}
 use Rattle.runs.specs.inner.Loops.{at}
@@ -48,30 +46,21 @@ use Rattle.compose.proofs.Planes.{Has, in_luma, in_cb, in_cr}
 use Rattle.compose.proofs.Planes as one-plane
 use Rattle.table_compose.specs.inner.ByTable.{Lent, Enhanced, in_not_full, plain_sample, enhanced_sample}
 
--- ---- a part that is copied to the front of zeros: past its end there is 0, and its samples have 16 bits
-abbrev zeros : List ℕ
-zeros = replicate 1024 0
+-- ---- a part that is copied: its samples have 16 bits, and past its end there is 0
+pub low_set : (l : List ℕ) (i v : ℕ) → ((j : ℕ) → at l j ≤ 65535) → v ≤ 65535 → (j : ℕ) → at (set l i v) j ≤ 65535
+low_set [] i v h b j = h j
+low_set (x ∷ xs) zero v h b zero = b
+low_set (x ∷ xs) zero v h b (suc j) = h (suc j)
+low_set (x ∷ xs) (suc i) v h b zero = h zero
+low_set (x ∷ xs) (suc i) v h b (suc j) = low_set xs i v (λ k. h (suc k)) b j
 
-pub copied : (l c : List ℕ) (n : ℕ) → n ≡ min (length l) 1024 → c ≡ take n l → (c ++ drop n zeros) ≡ table 1024 (at l)
-copied l c n least is =
-    ext_get_or 0 _ _ (all ∙ sym (length-table 1024 (at l)))
-    (λ i b.
-    let k : i < 1024 = subst (λ (m : ℕ). i < m) all b in
-    ⊎_elim
-    (λ front. get_or-append c (drop n zeros) 0 i (omega (arith, long)) ∙ rw is (get_or-take n l i 0 front))
-    (λ past.
-    get_or-append_right c (drop n zeros) i 0 (omega (arith, long))
-    ∙ get_or-drop n zeros (i - length c) 0
-    ∙ get_or-replicate 1024 (n + (i - length c)) 0 0 (omega (arith, long))
-    ∙ sym (get_or-eq_default l 0 (omega (arith, least))))
-    (cases_lt i n)
-    ∙ sym (at_table 1024 (at l) i k))
-  where
-    long : length c ≡ n
-    long = ap length is ∙ length-take-le n l (omega (arith, least))
+pub low_zeros : (n i : ℕ) → at (replicate n 0) i ≤ 65535
+low_zeros zero i = omega arith
+low_zeros (suc n) zero = omega arith
+low_zeros (suc n) (suc i) = low_zeros n i
 
-    all : length (c ++ drop n zeros) ≡ 1024
-    all = length-append c (drop n zeros) ∙ omega (arith, long, least, length-drop n zeros, length-replicate {A = ℕ} 1024 0)
+pub past_end : (l : List ℕ) (j : ℕ) → length l ≤ j → 0 ≡ at l j
+past_end l j b = sym (get_or-eq_default l 0 b)
 
 pub low_copy : (l : List ℕ) → ((i : ℕ) → at l i < 65536) → (i : ℕ) → at (table 1024 (at l)) i ≤ 65535
 low_copy l low i =

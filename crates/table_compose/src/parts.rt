@@ -40,14 +40,17 @@ pub(crate) fn plain_planes(
     );
 }
 
-// A part of at most 1,024 samples as a table.
+// A part of at most 1,024 samples as a table. It is copied sample by sample, and not by the library's method, so that a
+// slip in what a sample comes to can be planted, and is seen to be refused.
 fn table_of(part: &[u16]) -> [u16; 1024]
     ensures is { result ≡ table 1024 (at part.now) }
     ensures low { (i : ℕ) → at result i ≤ 65535 }
 {
     let n = part.len().min(1024);
     let mut table = [0u16; 1024];
-    table[..n].copy_from_slice(&part[..n]);
+    for s in 0..n {
+        table[s] = part[s];
+    }
     table
 }
 

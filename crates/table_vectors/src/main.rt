@@ -156,9 +156,10 @@ impl Case {
 
     // Another plan is the block's from here on.
     fn read_block(&mut self, rt: &HostRuntime) {
+        // Said before the block is read, so that one who waits for it may send the block then.
+        let _ = println!(rt; "read");
         let length = next_count(rt);
         self.plan = next_block(rt, length).plan;
-        let _ = println!(rt; "read");
     }
 
     fn step(&mut self, rt: &HostRuntime) {

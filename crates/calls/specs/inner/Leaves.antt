@@ -1,6 +1,7 @@
 -- The same of the calls that read off a number or a size, of those that the product's own crates make of each other, and of the
 -- benchmark's.
 use Rattle.std.specs.Prelude.{ℕ}
+use Rattle.refusals.specs.declared.Refusal.{Refusal}
 use Rattle.calls.specs.promises.planes_of as planes_of_promise
 use Rattle.calls.specs.promises.extent_of as extent_of_promise
 use Rattle.calls.specs.promises.is_used as is_used_promise
@@ -83,7 +84,7 @@ pub record LeavesSettled : Type 0 where
   pub four_put : OneContent put_four_promise.Post (λ c. c.left.1.0.now)
   pub looked_up_output : OneContent look_up_promise.Post (λ c. c.left.1.1.0.now)
   pub looked_up_in_step : OneContent look_up_in_step_promise.Post (λ c. c.left.1.1.1.1.1.1.1.0.now)
-  pub summed : OneContent sum_up_promise.Post (λ c. c.left.1.1.1.1.1.0.now)
+  pub summed : OneContent sum_up_promise.Post (λ c. c.left.1.1.1.1.0.now)
   pub lowered_output : OneContent lower_all_promise.Post (λ c. c.left.1.1.0.now)
   pub cut_out : OneAnswer cut_out_promise.Post
   pub looked_up_rows : OneContent look_up_rows_promise.Post (λ c. c.left.1.1.1.1.1.0.now)
@@ -146,7 +147,8 @@ pub record LeavesSettled : Type 0 where
   pub enhanced_plane : OneContent enhanced_plane_promise.Post (λ c. c.left.1.1.1.1.1.1.1.1.0.now)
   pub table_refusal_of : OneAnswer table_refusal_of_promise.Post
   pub table_size : OneAnswer table_size_promise.Post
-  pub seven_or : OneAnswer seven_or_promise.Post
+  pub seven_or : OneAnswer (seven_or_promise.Post ℕ)
+  pub seven_or_refusal : OneAnswer (seven_or_promise.Post Refusal)
   pub is_marked : OneAnswer is_marked_promise.Post
   pub speed_fill : OneAnswer speed_fill_promise.Post
   pub speed_table : OneContent speed_fill_promise.Post (λ c. c.left.1.0.now)

@@ -1,4 +1,5 @@
-use Rattle.std.proofs.Common.{◌≡◌, ℕ, ◌/◌, ◌^◌, ◌≤◌, Bool, true, cond, List, length, sym, ◌∙◌, arith}
+use mathlib.Core.Bool.{true≢false}
+use Rattle.std.proofs.Common.{◌≡◌, refl, ℕ, ◌/◌, ◌^◌, ◌≤◌, Bool, true, false, not, ◌&&◌, cond, List, length, sym, ◌∙◌, arith}
 use Rattle.std.proofs.lemmas.Result.{err_from_is_err_and}
 use lib.Pow.{pow_mono}
 use Rattle.runs.proofs.Painting.{length-painted}
@@ -6,7 +7,7 @@ use Rattle.refusals.specs.declared.Refusal.TheVariants.{Method}
 use Rattle.plan.specs.declared.Plan.{Plan}
 use Rattle.plan.specs.Ranges.{bl_depth, header_fits}
 use Rattle.plan.specs.Rule7.{fitting}
-use Rattle.plan.specs.Tables.{table_size}
+use Rattle.plan.specs.Tables.{table_size, has_mmr}
 use Rattle.plan.proofs.Facts.{header_facts, header-passed}
 use Rattle.std.specs.Prelude.{Some}
 use Rattle.mapping.specs.inner.Mapped.{answer}
@@ -43,6 +44,24 @@ returns-then-table-table_size c =
     let f = fits c.args.plan c.passes.ensures c.if-not-passes.false c.table_size.ensures in
     let z = sized c.args.plan c.passes.ensures c.if-not-passes.false c.table_size.ensures in
     let r = refused c.args.plan c.args.table.now 9 (nine c.args.plan _ f (λ e. c.if-table-table_size.true (e ∙ sym z))) (λ z. omega arith) in
+    record { answers = r.0; writes = r.1 }
+
+-- whether a plan that passes rule 7 has an MMR piece
+found : (p : Plan) (r t : Bool) → r ≡ (fitting p && not (has_mmr p)) → fitting p ≡ true → r ≡ not t → has_mmr p ≡ t
+found p r t e f q = twice (has_mmr p) t (sym (rw f at e) ∙ q)
+  where
+    twice : (m t : Bool) → not m ≡ not t → m ≡ t
+    twice true true z = refl
+    twice true false z = absurd (true≢false (sym z))
+    twice false true z = absurd (true≢false z)
+    twice false false z = refl
+
+pub returns-then-not-all_polynomials : goal.returns-then-not-all_polynomials
+returns-then-not-all_polynomials c =
+    let f = fits c.args.plan c.passes.ensures c.if-not-passes.false c.table_size.ensures in
+    let z = sized c.args.plan c.passes.ensures c.if-not-passes.false c.table_size.ensures in
+    let m = found c.args.plan _ true c.all_polynomials.ensures f c.if-not-all_polynomials.true in
+    let r = refused c.args.plan c.args.table.now 13 (thirteen c.args.plan _ f (c.if-table-table_size.false ∙ z) m) (λ z. omega arith) in
     record { answers = r.0; writes = r.1 }
 
 pub returns-in_err-luma : goal.returns-in_err-luma

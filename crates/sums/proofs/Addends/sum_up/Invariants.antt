@@ -1,9 +1,9 @@
 use Prim.Native.Nat.{◌*◌}
 use Rattle.runs.proofs.Painting.{PaintedFrom}
 use Rattle.sums.specs.inner.Sums.{summed}
-use Rattle.sums.proofs.Tables.sum_up.Given as goal
+use Rattle.sums.proofs.Addends.sum_up.Given as goal
 
--- `sums::Tables::sum_up` meets its contract: the sums so far are there. Assumes nothing.
+-- `sums::Addends::sum_up` meets its contract: the sums so far are there. Assumes nothing.
 abbrev pub invariant-loop-t : goal.invariant-loop-t
 invariant-loop-t l = PaintedFrom 0 (summed l.self.mapped.now l.self.raised.now l.base l.enhancement) l.initial.sums (4 * l.t) l.sums
 

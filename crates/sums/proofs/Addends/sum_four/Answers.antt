@@ -6,9 +6,9 @@ use Rattle.runs.specs.inner.Loops.{at}
 use Rattle.runs.proofs.Painting.{paint_none, paint_four, paint_part}
 use Rattle.spans.proofs.Fours.{given-at}
 use Rattle.sums.specs.inner.Sums.{summed}
-use Rattle.sums.proofs.Tables.sum_four.Goals as goal
+use Rattle.sums.proofs.Addends.sum_four.Goals as goal
 
--- `sums::Tables::sum_four` meets its contract. Assumes nothing.
+-- `sums::Addends::sum_four` meets its contract. Assumes nothing.
 -- a sum by the same places of the tables
 same_sum : (mapped raised : List ℕ) {r s e t f : ℕ} → r ≡ (at mapped s + at raised e) % 2 ^ 32 → s ≡ t → e ≡ f → r ≡ (at mapped t + at raised f) % 2 ^ 32
 same_sum mapped raised h p q = h ∙ ap₂ (λ (s e : ℕ). (at mapped s + at raised e) % 2 ^ 32) p q

@@ -1,7 +1,7 @@
 use native.Mathlib.Omega.{arith}
 use Rattle.runs.proofs.Painting.{paint_none, paint_more, paint_all}
 use Rattle.spans.proofs.Fours.{paint_begun, paint_turn, paint_from}
-use Rattle.sums.proofs.Tables.sum_up.Goals as goal
+use Rattle.sums.proofs.Addends.sum_up.Goals as goal
 
 pub loop-t-preserved : goal.loop-t-preserved
 loop-t-preserved c =
